@@ -1,0 +1,10 @@
+pub mod Cases
+pub mod Order
+pub mod Plans
+pub mod Rules
+pub mod Unmet
+pub mod Shut
+pub mod Walks
+pub mod Least
+pub mod Bound
+pub mod Known

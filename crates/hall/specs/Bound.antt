@@ -1,0 +1,51 @@
+-- The bound on the nodes opened, and the halls on which it is reached. 01, "The walk", and demand 3.
+--
+-- In order: k, d and the power sum; the equality case. Definitions only.
+use mathlib.Core.Path.{_≡_}
+use mathlib.Core.Bool.{Bool, true, false, not, _&&_}
+use mathlib.Core.List.{List, [], _∷_, _++_}
+use Prim.Native.Nat.{ℕ, zero, suc, _+_, _^_, min, max}
+use lib.ListN.{length, replicate}
+use lib.Dec.{eqb}
+use Rattle.hall.specs.Hall.{Entry, device, Rule, Hall}
+use Rattle.hall.specs.Ranges.{Each}
+
+-- "The widest rule's width is k, 0 where there are no rules"
+unfoldable pub widest : List Rule → ℕ
+widest [] = 0
+widest (r ∷ rs) = max (length r) (widest rs)
+
+-- "d is the smaller of n and m"
+abbrev pub depth : Hall → ℕ
+depth h = min (length (h .costs)) (length (h .rules))
+
+-- 1 + k + ... + k^d
+unfoldable pub powerSum : ℕ → ℕ → ℕ
+powerSum k zero = 1
+powerSum k (suc d) = powerSum k d + k ^ suc d
+
+-- the bound of a hall
+abbrev pub boundOf : Hall → ℕ
+boundOf h = powerSum (widest (h .rules)) (depth h)
+
+-- all entries of the rules, as written
+unfoldable pub entries : List Rule → List Entry
+entries [] = []
+entries (r ∷ rs) = r ++ entries rs
+
+unfoldable pub absent : ℕ → List Entry → Bool
+absent v [] = true
+absent v (e ∷ es) = not (eqb (device e) v) && absent v es
+
+-- no device is written twice
+unfoldable pub once : List Entry → Bool
+once [] = true
+once (e ∷ es) = absent (device e) es && once es
+
+-- the equality case, with the common width k: no device is written twice in the rules, all rules are equally long, all costs
+-- are equal
+pub record EqualityCase (h : Hall) (k : ℕ) : Type 0 where
+  pub apart : once (entries (h .rules)) ≡ true
+  pub wide : Each (λ r. length r ≡ k) (h .rules)
+  pub cost : ℕ
+  pub level : h .costs ≡ replicate (length (h .costs)) cost

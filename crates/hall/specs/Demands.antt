@@ -1,0 +1,48 @@
+-- The three demands as one claim about a sheet, a budget, a plan room's length and an answer. 01, "The answer sheet of the
+-- search" and "What acceptance reads in the contracts".
+--
+-- `Answered` speaks of sheets, reasons, plans and the number of nodes; neither the decoder nor the walk's best is in it. That
+-- exactly one answer has it, and which, are theorems (proofs/Answers). Definitions only.
+use mathlib.Core.Path.{_≡_}
+use mathlib.Core.List.{List}
+use Prim.Native.Nat.{ℕ, _≤_, _<_}
+use lib.ListN.{length}
+use lib.IntN.{ℤ}
+use Rattle.hall.specs.Hall.{Hall, Plan}
+use Rattle.hall.specs.Order.{heldEntries, sumOf, LeastPlan, NoPlan}
+use Rattle.hall.specs.Walk.{walkHall}
+use Rattle.hall.specs.Ranges.{SheetOf}
+use Rattle.hall.specs.Due.{Reason}
+use Rattle.hall.specs.Answer.{Answer, least, none, spent, refused}
+
+-- code 0: the least plan of the sheet's hall, with the exact sum of its held devices' costs, their number, and the nodes of the
+-- walk, which the budget allows
+pub record SaysLeast (ws : List ℤ) (budget room cost held opened : ℕ) (p : Plan) : Type 0 where
+  pub hall : Hall
+  pub sheet : SheetOf hall ws room
+  pub plan : LeastPlan hall p
+  pub total : cost ≡ sumOf (hall .costs) (heldEntries p)
+  pub number : held ≡ length (heldEntries p)
+  pub count : opened ≡ walkHall hall .opened
+  pub allowed : opened ≤ budget
+
+-- code 1: no plan meets every rule
+pub record SaysNone (ws : List ℤ) (budget room opened : ℕ) : Type 0 where
+  pub hall : Hall
+  pub sheet : SheetOf hall ws room
+  pub plan : NoPlan hall
+  pub count : opened ≡ walkHall hall .opened
+  pub allowed : opened ≤ budget
+
+-- code 2: the walk needs more nodes than the budget; "nodes opened, equal to the budget"
+pub record SaysSpent (ws : List ℤ) (budget room opened : ℕ) : Type 0 where
+  pub hall : Hall
+  pub sheet : SheetOf hall ws room
+  pub count : opened ≡ budget
+  pub over : budget < walkHall hall .opened
+
+abbrev pub Answered : List ℤ → (budget room : ℕ) → Answer → Type 0
+Answered ws budget room (least cost held opened p) = SaysLeast ws budget room cost held opened p
+Answered ws budget room (none opened) = SaysNone ws budget room opened
+Answered ws budget room (spent opened) = SaysSpent ws budget room opened
+Answered ws budget room (refused f place) = Reason f place ws room

@@ -1,0 +1,128 @@
+-- Sheets with known answers. 01, "Sheets with known answers", and rows of our own.
+--
+-- In order: what a row says and what the definitions say for it; 01's rows with a star; 01's other rows; rows for ways astray
+-- that no starred row tells apart; the largest total. Definitions only; that the rows are right is proofs/Known.
+use mathlib.Core.List.{List, [], _∷_, _++_, map}
+use Prim.Native.Nat.{ℕ, zero, suc}
+use lib.ListN.{replicate}
+use lib.IntN.{ℤ, pos, negsuc}
+use Rattle.hall.specs.Hall.{at1, Rule, Hall}
+use Rattle.hall.specs.Order.{heldEntries}
+use Rattle.hall.specs.Ranges.{wordsOf, entryWords, words}
+use Rattle.hall.specs.Answer.{Answer, least, none, spent, refused, answer, numbers}
+
+-- an answer as the table writes it: the code and what is returned, then the entries behind `hold`
+pub record Outcome : Type 0 where
+  pub told : List ℕ
+  pub hold : List ℤ
+
+pub record Row : Type 0 where
+  pub sheet : List ℤ
+  pub budget : ℕ
+  pub room : ℕ
+  pub expected : Outcome
+
+abbrev pub holding : Answer → List ℤ
+holding (least cost held opened p) = wordsOf entryWords (heldEntries p)
+holding (none opened) = []
+holding (spent opened) = []
+holding (refused f place) = []
+
+abbrev pub outcomeOf : Answer → Outcome
+outcomeOf a = record { told = numbers a; hold = holding a }
+
+-- what the definitions say for a row
+unfoldable pub outcome : Row → Outcome
+outcome r = outcomeOf (answer (r .sheet) (r .budget) (r .room))
+
+-- the words +v and -v; -0 is the word 0
+abbrev + : ℕ → ℤ
++ v = pos v
+
+abbrev - : ℕ → ℤ
+- zero = pos 0
+- (suc v) = negsuc v
+
+-- "Budget 1,000 unless named", and a plan room of 200 bytes unless named
+abbrev pub under : ℕ → ℕ → List ℤ → List ℕ → List ℤ → Row
+under budget room sheet told hold = record { sheet = sheet; budget = budget; room = room; expected = record { told = told; hold = hold } }
+
+abbrev pub row : List ℤ → List ℕ → List ℤ → Row
+row = under 1000 200
+
+abbrev pub fourDevices : List ℤ
+fourDevices = + 4 ∷ + 5 ∷ + 2 ∷ + 4 ∷ + 3 ∷ + 3 ∷ + 2 ∷ + 1 ∷ + 2 ∷ + 2 ∷ - 2 ∷ + 3 ∷ + 2 ∷ - 1 ∷ + 4 ∷ []
+
+-- 01's rows with a star
+unfoldable pub starred : List Row
+starred =
+    row (+ 0 ∷ + 0 ∷ []) (0 ∷ 0 ∷ 0 ∷ 1 ∷ []) []
+    ∷ row (+ 0 ∷ + 1 ∷ + 0 ∷ []) (1 ∷ 1 ∷ []) []
+    ∷ row (+ 1 ∷ + 4 ∷ + 2 ∷ + 1 ∷ + 1 ∷ + 1 ∷ - 1 ∷ []) (1 ∷ 2 ∷ []) []
+    ∷ row (+ 2 ∷ + 0 ∷ + 0 ∷ + 1 ∷ + 1 ∷ + 1 ∷ []) (0 ∷ 0 ∷ 1 ∷ 2 ∷ []) (+ 1 ∷ [])
+    ∷ row (+ 2 ∷ + 3 ∷ + 3 ∷ + 1 ∷ + 2 ∷ + 2 ∷ + 1 ∷ []) (0 ∷ 3 ∷ 1 ∷ 3 ∷ []) (+ 2 ∷ [])
+    ∷ row (+ 2 ∷ + 1 ∷ + 10 ∷ + 1 ∷ + 2 ∷ + 1 ∷ + 2 ∷ []) (0 ∷ 1 ∷ 1 ∷ 3 ∷ []) (+ 1 ∷ [])
+    ∷ under 2 200 (+ 2 ∷ + 1 ∷ + 10 ∷ + 1 ∷ + 2 ∷ + 1 ∷ + 2 ∷ []) (2 ∷ 2 ∷ []) []
+    ∷ row (+ 1 ∷ + 4 ∷ + 1 ∷ + 2 ∷ - 1 ∷ + 1 ∷ []) (0 ∷ 4 ∷ 1 ∷ 3 ∷ []) (+ 1 ∷ [])
+    ∷ row fourDevices (0 ∷ 9 ∷ 3 ∷ 10 ∷ []) (+ 2 ∷ + 3 ∷ + 4 ∷ [])
+    ∷ row
+        (+ 5 ∷ + 1000000000 ∷ + 1000000000 ∷ + 1000000000 ∷ + 1000000000 ∷ + 1000000000 ∷ + 5 ∷ + 1 ∷ + 1 ∷ + 1 ∷ + 2 ∷ + 1 ∷ + 3 ∷ + 1 ∷ + 4 ∷ + 1 ∷ + 5 ∷ [])
+        (0 ∷ 5000000000 ∷ 5 ∷ 6 ∷ [])
+        (+ 1 ∷ + 2 ∷ + 3 ∷ + 4 ∷ + 5 ∷ [])
+    ∷ row
+        (+ 4 ∷ + 1000000000 ∷ + 1000000000 ∷ + 1000000000 ∷ + 1000000000 ∷ + 3 ∷ + 2 ∷ + 1 ∷ + 4 ∷ + 2 ∷ + 2 ∷ + 4 ∷ + 2 ∷ + 3 ∷ + 4 ∷ [])
+        (0 ∷ 1000000000 ∷ 1 ∷ 7 ∷ [])
+        (+ 4 ∷ [])
+    ∷ []
+
+-- 01's other rows
+unfoldable pub unstarred : List Row
+unstarred =
+    row [] (11 ∷ 0 ∷ []) []
+    ∷ row (+ 201 ∷ []) (12 ∷ 0 ∷ []) []
+    ∷ row (+ 1 ∷ + 1000000000 ∷ + 0 ∷ []) (0 ∷ 0 ∷ 0 ∷ 1 ∷ []) []
+    ∷ row (+ 1 ∷ + 1000000001 ∷ + 0 ∷ []) (13 ∷ 1 ∷ []) []
+    ∷ row (+ 1 ∷ + 5 ∷ + 1 ∷ + 1 ∷ []) (11 ∷ 4 ∷ []) []
+    ∷ row (+ 1 ∷ + 5 ∷ + 1 ∷ + 1 ∷ + 2 ∷ []) (14 ∷ 4 ∷ []) []
+    ∷ row (+ 1 ∷ + 5 ∷ + 1 ∷ + 33 ∷ []) (12 ∷ 3 ∷ []) []
+    ∷ row (+ 1 ∷ + 5 ∷ + 0 ∷ + 7 ∷ []) (15 ∷ 3 ∷ []) []
+    ∷ under 1000 0 (+ 1 ∷ + 5 ∷ + 0 ∷ []) (16 ∷ 1 ∷ []) []
+    ∷ under 0 200 (+ 0 ∷ + 0 ∷ []) (2 ∷ 0 ∷ []) []
+    ∷ []
+
+-- Ways astray that no starred row tells apart, each with what it would answer instead
+unfoldable pub astray : List Row
+astray =
+    -- closing a node whose cost merely equals the best's: hold -1 2
+    row (+ 2 ∷ + 1 ∷ + 0 ∷ + 2 ∷ + 2 ∷ - 1 ∷ + 1 ∷ + 1 ∷ + 2 ∷ []) (0 ∷ 1 ∷ 2 ∷ 5 ∷ []) (+ 1 ∷ + 2 ∷ [])
+    -- step 2 without its + 1: 4 opened
+    ∷ row (+ 2 ∷ + 1 ∷ + 1 ∷ + 2 ∷ + 2 ∷ + 1 ∷ + 2 ∷ + 1 ∷ + 1 ∷ []) (0 ∷ 1 ∷ 1 ∷ 3 ∷ []) (+ 1 ∷ [])
+    -- a repeated entry skipped: 2 opened
+    ∷ row (+ 1 ∷ + 4 ∷ + 1 ∷ + 2 ∷ + 1 ∷ + 1 ∷ []) (0 ∷ 4 ∷ 1 ∷ 3 ∷ []) (+ 1 ∷ [])
+    -- a node closed early for its empty rule: none 1
+    ∷ row (+ 1 ∷ + 0 ∷ + 2 ∷ + 1 ∷ + 1 ∷ + 0 ∷ []) (1 ∷ 2 ∷ []) []
+    -- step 2 asked before step 1, or the first plan of equal cost and number kept: hold 1
+    ∷ row (+ 2 ∷ + 3 ∷ + 3 ∷ + 1 ∷ + 2 ∷ + 1 ∷ + 2 ∷ []) (0 ∷ 3 ∷ 1 ∷ 3 ∷ []) (+ 2 ∷ [])
+    -- fewer devices held forgotten between equal costs: hold 2 3, whose first mark is free
+    ∷ row (+ 3 ∷ + 0 ∷ + 0 ∷ + 0 ∷ + 2 ∷ + 2 ∷ + 2 ∷ + 1 ∷ + 2 ∷ + 3 ∷ + 1 ∷ []) (0 ∷ 0 ∷ 1 ∷ 5 ∷ []) (+ 1 ∷ [])
+    -- a plan without superfluous holds taken for the least one: least 3 1, hold 1
+    ∷ row (+ 3 ∷ + 3 ∷ + 1 ∷ + 1 ∷ + 2 ∷ + 2 ∷ + 1 ∷ + 2 ∷ + 2 ∷ + 1 ∷ + 3 ∷ []) (0 ∷ 2 ∷ 2 ∷ 5 ∷ []) (+ 2 ∷ + 3 ∷ [])
+    -- a sheet that has a plan, searched to its end by exactly the budget, called spent
+    ∷ under 10 200 fourDevices (0 ∷ 9 ∷ 3 ∷ 10 ∷ []) (+ 2 ∷ + 3 ∷ + 4 ∷ [])
+    ∷ under 9 200 fourDevices (2 ∷ 9 ∷ []) []
+    -- a bad sheet at budget 0 called spent; words behind the sheet told after the room; the rule count trusted ahead of its rules
+    ∷ under 0 200 (+ 1 ∷ + 5 ∷ + 0 ∷ + 7 ∷ []) (15 ∷ 3 ∷ []) []
+    ∷ under 1000 0 (+ 1 ∷ + 5 ∷ + 0 ∷ + 7 ∷ []) (15 ∷ 3 ∷ []) []
+    ∷ row (+ 0 ∷ + 2000 ∷ + 1 ∷ + 1 ∷ []) (14 ∷ 3 ∷ []) []
+    ∷ []
+
+-- the largest total: 200 devices at 1,000,000,000, each held by a rule of its own
+unfoldable pub singles : ℕ → List Rule
+singles zero = []
+singles (suc n) = singles n ++ ((at1 n ∷ []) ∷ [])
+
+abbrev pub largest : Hall
+largest = record { costs = replicate 200 1000000000; rules = singles 200 }
+
+unfoldable pub largestRow : Row
+largestRow = row (words largest) (0 ∷ 200000000000 ∷ 200 ∷ 201 ∷ []) (wordsOf (wordsOf entryWords) (singles 200))
