@@ -7,4 +7,6 @@ pub mod Shut
 pub mod Walks
 pub mod Least
 pub mod Bound
+pub mod Apart
+pub mod Equality
 pub mod Known
