@@ -9,4 +9,8 @@ pub mod Least
 pub mod Bound
 pub mod Apart
 pub mod Equality
+pub mod Reading
+pub mod Accepted
+pub mod Due
+pub mod Reasons
 pub mod Known

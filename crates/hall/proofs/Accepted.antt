@@ -1,0 +1,74 @@
+-- The sheet of a hall within every range is accepted, and that hall is what is decoded.
+--
+-- In order: what stands on the sheet and is in its range is given, for each reader from a word to a hall (`Gives`,
+-- `hall-gives`); the whole sheet (`accepted`). That nothing else is accepted is `decoded`, in Reasons. Assumes nothing.
+use mathlib.Core.Path.{_≡_, refl, sym, _∙_, ap}
+use mathlib.Core.List.{List, [], _∷_, _++_, append-assoc, append-nil}
+use mathlib.Core.Option.{Option, some}
+use Prim.Native.Nat.{ℕ, zero, suc, _+_, _≤_, _<_}
+use native.Mathlib.Omega.{arith}
+use lib.ListN.{length, drop, length-append}
+use lib.IntN.{ℤ, pos}
+use borrow.Author.Tests.{le-leb, lt-ltb, le-ltb}
+use Rattle.hall.specs.Hall.{Entry, at1, at0, device, Rule, Hall}
+use Rattle.hall.specs.Ranges.{Each, RuleInRange, InRange, wordsOf, numberWords, entryWords, ruleWords, words, SheetOf}
+use Rattle.hall.specs.Reading.{Fault, badCount, badCost, badEntry, Read, got, Reader, _>>=_, yield, word, upTo, asEntry, times, cost, entry, rule, hall, ended, hasRoom, decodeBy, decode}
+use Rattle.hall.proofs.Reading.{drop-word, past, reads-on}
+
+-- ── what stands on the sheet is given ──
+abbrev Gives : {A : Type 0} → Reader A → (A → List ℤ) → (A → Type 0) → Type 0
+Gives {A} r f P = (a : A) → P a → (ws : List ℤ) (i : ℕ) (rest : List ℤ) → drop i ws ≡ f a ++ rest → r ws i ≡ got a (i + length (f a))
+
+word-gives : {A : Type 0} (c : Fault) (value : ℤ → Option A) (w : ℤ) (a : A) → value w ≡ some a → (ws : List ℤ) (i : ℕ) (rest : List ℤ) → drop i ws ≡ w ∷ rest → word c value ws i ≡ got a (i + 1)
+word-gives c value w a v ws i rest e = rw (drop-word ws i w rest e, v) (ap (λ (j : ℕ). got a j) (omega arith))
+
+number-gives : (c : Fault) (most : ℕ) → Gives (word c (upTo most)) numberWords (λ n. n ≤ most)
+number-gives c most n g = word-gives c (upTo most) (pos n) n (rw (le-leb n most g))
+
+entry-gives : (n : ℕ) → Gives (entry n) entryWords (λ e. device e < n)
+entry-gives n (at1 v) g = word-gives badEntry (asEntry n) _ (at1 v) (rw (lt-ltb v n g))
+entry-gives n (at0 v) g = word-gives badEntry (asEntry n) _ (at0 v) (rw (lt-ltb v n g))
+
+module _ {A : Type 0} (r : Reader A) (f : A → List ℤ) (P : A → Type 0) (gives : Gives r f P) where
+  times-gives : (l : List A) → Each P l → (ws : List ℤ) (i : ℕ) (rest : List ℤ) → drop i ws ≡ wordsOf f l ++ rest → times (length l) r ws i ≡ got l (i + length (wordsOf f l))
+  unfolding times wordsOf
+  times-gives [] g ws i rest e = ap (λ (j : ℕ). got [] j) (omega arith)
+  times-gives (a ∷ l) g ws i rest e =
+      let front : drop i ws ≡ f a ++ (wordsOf f l ++ rest) = e ∙ append-assoc (f a) (wordsOf f l) rest in
+      let next = past ws i (f a) (wordsOf f l ++ rest) front in
+      reads-on r (λ a. times (length l) r >>= λ m. yield (a ∷ m)) ws i (gives a (g .0) ws i (wordsOf f l ++ rest) front)
+      ∙ reads-on (times (length l) r) (λ m. yield (a ∷ m)) ws (i + length (f a)) (times-gives l (g .1) ws (i + length (f a)) rest next)
+      ∙ ap (λ (j : ℕ). got (a ∷ l) j) (omega (arith, length-append (f a) (wordsOf f l)))
+
+rule-gives : (n : ℕ) → Gives (rule n) ruleWords (RuleInRange n)
+unfolding rule ruleWords
+rule-gives n r g ws i rest e =
+    reads-on (word badCount (upTo 32)) (λ w. times w (entry n)) ws i (number-gives badCount 32 (length r) (g .width) ws i (wordsOf entryWords r ++ rest) e)
+    ∙ times-gives (entry n) entryWords (λ e. device e < n) (entry-gives n) r (g .named) ws (i + 1) rest (past ws i (pos (length r) ∷ []) (wordsOf entryWords r ++ rest) e)
+    ∙ ap (λ (j : ℕ). got r j) (omega arith)
+
+pub hall-gives : Gives hall words InRange
+unfolding hall words
+hall-gives h g ws i rest e =
+    let cs = wordsOf numberWords (h .costs) in
+    let rs = wordsOf ruleWords (h .rules) in
+    let n = length (h .costs) in
+    let m = length (h .rules) in
+    let e₁ = past ws i (pos n ∷ []) (cs ++ (pos m ∷ (rs ++ rest))) (e ∙ ap (λ (w : List ℤ). pos n ∷ w) (append-assoc cs (pos m ∷ rs) rest)) in
+    let e₂ = past ws (i + 1) cs (pos m ∷ (rs ++ rest)) e₁ in
+    let e₃ = past ws (i + 1 + length cs) (pos m ∷ []) (rs ++ rest) e₂ in
+    reads-on (word badCount (upTo 200)) _ ws i (number-gives badCount 200 n (g .devices) ws i _ e)
+    ∙ reads-on (times n cost) _ ws (i + 1) (times-gives cost numberWords (λ c. c ≤ 1000000000) (number-gives badCost 1000000000) (h .costs) (g .cheap) ws (i + 1) (pos m ∷ (rs ++ rest)) e₁)
+    ∙ reads-on (word badCount (upTo 2000)) _ ws (i + 1 + length cs) (number-gives badCount 2000 m (g .count) ws (i + 1 + length cs) (rs ++ rest) e₂)
+    ∙ reads-on (times m (rule n)) _ ws (i + 1 + length cs + 1) (times-gives (rule n) ruleWords (RuleInRange n) (rule-gives n) (h .rules) (g .good) ws (i + 1 + length cs + 1) rest e₃)
+    ∙ ap (λ (j : ℕ). got h j) (omega (arith, length-append cs (pos m ∷ rs)))
+
+-- ── the whole sheet ──
+pub accepted : (room : ℕ) (ws : List ℤ) (h : Hall) → SheetOf h ws room → decode room ws ≡ got h (length ws)
+unfolding decode decodeBy
+accepted room ws h s =
+    let e : drop 0 ws ≡ words h ++ [] = s .sheet ∙ sym (append-nil (words h)) in
+    let l : length ws ≡ length (words h) = ap length (s .sheet) in
+    let r : _>>=_ hall ended ws 0 ≡ got h (0 + length (words h)) = reads-on hall ended ws 0 (hall-gives h (s .ranges) ws 0 [] e) ∙ rw (le-ltb (0 + length (words h)) (length ws) (omega arith)) in
+    rw (le-ltb 16384 (length ws) (s .short))
+    (reads-on (hall >>= ended) (hasRoom room) ws 0 r ∙ rw (le-ltb room (length (h .costs)) (s .fits)) (ap (λ (j : ℕ). got h j) (omega arith)))
