@@ -13,4 +13,7 @@ pub mod Reading
 pub mod Accepted
 pub mod Due
 pub mod Reasons
+pub mod Sums
+pub mod Budget
+pub mod Answers
 pub mod Known

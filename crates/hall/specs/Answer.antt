@@ -1,6 +1,7 @@
 -- The answer to a sheet under a budget, this paper's numbers for it, and the plan room afterwards. 01, "The answer sheet of the search".
 --
--- In order: the answer's cases; a finished walk; the budget; the whole; its numbers; the plan room. Definitions only.
+-- In order: the answer's cases; a finished walk; the budget; the whole; its numbers, its count, whether it is finished; the plan
+-- room. Definitions only.
 use mathlib.Core.Bool.{Bool, true, false}
 use mathlib.Core.List.{List, [], _∷_, _++_}
 use Prim.Native.Nat.{ℕ}
@@ -47,6 +48,20 @@ numbers (least cost held opened p) = 0 ∷ cost ∷ held ∷ opened ∷ []
 numbers (none opened) = 1 ∷ opened ∷ []
 numbers (spent opened) = 2 ∷ opened ∷ []
 numbers (refused f place) = codeOf f ∷ place ∷ []
+
+-- the nodes opened; a refusal opens none
+abbrev pub nodesOf : Answer → ℕ
+nodesOf (least cost held opened p) = opened
+nodesOf (none opened) = opened
+nodesOf (spent opened) = opened
+nodesOf (refused f place) = 0
+
+-- the sheet was refused or searched to its end: any answer but spent
+abbrev pub Finished : Answer → Type 0
+Finished (least cost held opened p) = Unit {0}
+Finished (none opened) = Unit {0}
+Finished (spent opened) = ⊥
+Finished (refused f place) = Unit {0}
 
 -- "Plan room afterwards": "first n bytes: 0 free, 1 held at 1, 2 held at 0; the rest unchanged", else "unchanged"
 abbrev pub roomAfter : Answer → List ℕ → List ℕ
