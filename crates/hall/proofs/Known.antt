@@ -1,15 +1,15 @@
--- The tables of known rows, each as one claim, by computation.
+-- The tables of known rows, each as one claim, by computation: 01's starred rows (`starred-right`), its other rows
+-- (`unstarred-right`), and the ways astray (`astray-right`). The largest total is Largest. Assumes nothing.
 use mathlib.Core.Path.{_≡_, refl}
 use mathlib.Core.List.{map}
 use Rattle.hall.specs.Hall.{holds, isFree, hold, meetsRule, meetsAll, firstUnmet}
 use Rattle.hall.specs.Order.{ifHeld, costOf, heldOf, heldFrom, less, rank, better}
 use Rattle.hall.specs.Walk.{keep, closes, shut, still, after, entryBy, through, opening, nodeBy, node, walk, walkFrom, start, walkHall}
-use Rattle.hall.specs.Ranges.{wordsOf, ruleWords, words}
+use Rattle.hall.specs.Ranges.{wordsOf}
 use Rattle.hall.specs.Reading.{times, rule, hall, decodeBy, decode}
 use Rattle.hall.specs.Answer.{answer}
-use Rattle.hall.specs.Table.{Outcome, Row, outcome, starred, unstarred, astray, singles, largestRow}
+use Rattle.hall.specs.Table.{Row, outcome, starred, unstarred, astray}
 
--- 01's starred rows
 pub starred-right : map outcome starred ≡ map (λ (r : Row). r .expected) starred
 unfolding starred outcome answer decode decodeBy hall rule times walkHall walkFrom start walk node nodeBy opening through entryBy after still shut closes keep better rank less heldFrom heldOf costOf ifHeld firstUnmet meetsAll meetsRule hold isFree holds wordsOf
 starred-right = refl
@@ -21,7 +21,3 @@ unstarred-right = refl
 pub astray-right : map outcome astray ≡ map (λ (r : Row). r .expected) astray
 unfolding astray outcome answer decode decodeBy hall rule times walkHall walkFrom start walk node nodeBy opening through entryBy after still shut closes keep better rank less heldFrom heldOf costOf ifHeld firstUnmet meetsAll meetsRule hold isFree holds wordsOf
 astray-right = refl
-
-pub largest-right : outcome largestRow ≡ largestRow .expected
-unfolding largestRow singles words ruleWords outcome answer decode decodeBy hall rule times walkHall walkFrom start walk node nodeBy opening through entryBy after still shut closes keep better rank less heldFrom heldOf costOf ifHeld firstUnmet meetsAll meetsRule hold isFree holds wordsOf
-largest-right = refl

@@ -16,4 +16,5 @@ pub mod Reasons
 pub mod Sums
 pub mod Budget
 pub mod Answers
+pub mod Largest
 pub mod Known

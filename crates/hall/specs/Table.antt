@@ -123,6 +123,3 @@ singles (suc n) = singles n ++ ((at1 n ∷ []) ∷ [])
 
 abbrev pub largest : Hall
 largest = record { costs = replicate 200 1000000000; rules = singles 200 }
-
-unfoldable pub largestRow : Row
-largestRow = row (words largest) (0 ∷ 200000000000 ∷ 200 ∷ 201 ∷ []) (wordsOf (wordsOf entryWords) (singles 200))

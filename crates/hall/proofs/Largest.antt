@@ -1,0 +1,101 @@
+-- The largest total, 200 devices at 1,000,000,000, each held by a rule of its own: the whole answer, from the demands alone.
+--
+-- The argument: the hall is within the ranges; a plan that meets its rules holds every device at 1 (`all-held`), so that plan is
+-- the least one; no device is written twice, so the walk opens 1 + 1 + .. + 1 nodes. The claim: `largest-answer`. Assumes nothing.
+use mathlib.Core.Path.{_≡_, refl, sym, _∙_}
+use mathlib.Core.Bool.{true, or-false}
+use mathlib.Core.List.{List, [], _∷_, _++_}
+use Prim.Native.Nat.{ℕ, zero, suc, _≤_, _<_, zero-le}
+use native.Mathlib.Omega.{arith}
+use lib.ListN.{length, getD, replicate, length-replicate, getD-replicate, length-append}
+use lib.Seq.{ext-getD}
+use borrow.Author.Tests.{eqb-true}
+use Rattle.hall.specs.Hall.{at1, Rule, Hall, Plan, holds, meetsRule, meetsAll}
+use Rattle.hall.specs.Order.{heldFrom, heldEntries, sumOf, better, MeetsSheet, LeastPlan}
+use Rattle.hall.specs.Ranges.{Each, RuleInRange, InRange, wordsOf, ruleWords, words}
+use Rattle.hall.specs.Bound.{entries, absent, once, powerSum, EqualityCase}
+use Rattle.hall.specs.Answer.{least, answer}
+use Rattle.hall.specs.Table.{singles, largest}
+use Rattle.hall.proofs.Cases.{and-both, Tri, below, level, above, tri}
+use Rattle.hall.proofs.Order.{better-irreflexive}
+use Rattle.hall.proofs.Equality.{opens-exactly}
+use Rattle.hall.proofs.Answers.{answered-only}
+
+each-append : {A : Type 0} (P : A → Type 0) (l m : List A) → Each P l → Each P m → Each P (l ++ m)
+each-append P [] m a b = b
+each-append P (x ∷ l) m a b = (a .0, each-append P l m (a .1) b)
+
+each-replicate : {A : Type 0} (P : A → Type 0) (n : ℕ) (a : A) → P a → Each P (replicate n a)
+each-replicate P zero a p = tt
+each-replicate P (suc n) a p = (p, each-replicate P n a p)
+
+-- what holds of each rule of one entry below n holds of the first m of them
+singles-each : (P : Rule → Type 0) (n m : ℕ) → m ≤ n → ((v : ℕ) → v < n → P (at1 v ∷ [])) → Each P (singles m)
+unfolding singles
+singles-each P n zero l p = tt
+singles-each P n (suc m) l p = each-append P (singles m) _ (singles-each P n m (omega arith) p) (p m l, tt)
+
+singles-count : (n : ℕ) → length (singles n) ≡ n
+unfolding singles
+singles-count zero = refl
+singles-count (suc n) = omega (arith, length-append (singles n) ((at1 n ∷ []) ∷ []), singles-count n)
+
+in-range : InRange largest
+in-range = record {
+  devices = omega (arith, length-replicate {A = ℕ} 200 1000000000);
+  cheap = each-replicate (λ c. c ≤ 1000000000) 200 1000000000 (omega arith);
+  count = omega (arith, singles-count 200);
+  good = singles-each (RuleInRange 200) 200 200 (omega arith) (λ v l. record { width = omega arith; named = (l, tt) }) }
+
+equal : EqualityCase largest 1
+unfolding once absent entries singles
+equal = record { apart = refl; wide = singles-each (λ r. length r ≡ 1) 200 200 (omega arith) (λ v l. refl); cost = 1000000000; level = refl }
+
+-- a plan that meets every rule holds every device at 1
+meets-append : (q : Plan) (rs : List Rule) (r : Rule) → meetsAll q (rs ++ (r ∷ [])) ≡ true → (meetsAll q rs ≡ true) × (meetsRule q r ≡ true)
+unfolding meetsAll
+meets-append q [] r h = (refl, and-both (meetsRule q r) true h .0)
+meets-append q (s ∷ rs) r h =
+    let a = and-both (meetsRule q s) (meetsAll q (rs ++ (r ∷ []))) h in
+    let b = meets-append q rs r (a .1) in
+    (rw (a .0) (b .0), b .1)
+
+all-held : (q : Plan) (m : ℕ) → meetsAll q (singles m) ≡ true → (v : ℕ) → v < m → getD q v 0 ≡ 1
+unfolding singles meetsRule holds
+all-held q zero h v l = absurd (omega arith)
+all-held q (suc m) h v l = go (tri v m) (λ k. all-held q m (meets-append q (singles m) (at1 m ∷ []) h .0) v k)
+  where
+    go : Tri v m → (v < m → getD q v 0 ≡ 1) → getD q v 0 ≡ 1
+    go (below k) ih = ih k
+    go (level k) ih = rw k (eqb-true _ _ (simp or-false at (meets-append q (singles m) (at1 m ∷ []) h .1)))
+    go (above k) ih = absurd (omega arith)
+
+everyone : Plan
+everyone = replicate 200 1
+
+the-least : LeastPlan largest everyone
+unfolding everyone meetsAll meetsRule holds singles
+the-least = record { sheet = record { plan = record { size = refl; marks = small 200 }; meets = refl }; best = λ q m. rw (same q m) (better-irreflexive (largest .costs) everyone) }
+  where
+    small : (n v : ℕ) → getD (replicate n 1) v 0 ≤ 2
+    small zero v = zero-le
+    small (suc n) zero = omega arith
+    small (suc n) (suc v) = small n v
+    same : (q : Plan) → MeetsSheet largest q → q ≡ replicate 200 1
+    same q m =
+        let l : length q ≡ 200 = m .plan .size in
+        ext-getD 0 q (replicate 200 1) l (λ v k. all-held q 200 (m .meets) v (omega arith) ∙ sym (getD-replicate {A = ℕ} 200 v 1 0 (omega arith)))
+
+pub largest-answer : answer (words largest) 1000 200 ≡ least 200000000000 200 201 (replicate 200 1)
+unfolding everyone words wordsOf ruleWords singles heldFrom sumOf powerSum
+largest-answer = answered-only (words largest) 1000 200 (least 200000000000 200 201 everyone) (record {
+  hall = largest;
+  sheet = record { sheet = refl; ranges = in-range; short = omega (arith, size); fits = omega arith };
+  plan = the-least;
+  total = refl;
+  number = refl;
+  count = sym (opens-exactly largest 1 in-range equal);
+  allowed = omega arith })
+  where
+    size : length (words largest) ≡ 602
+    size = refl
