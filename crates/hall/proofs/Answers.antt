@@ -2,18 +2,18 @@
 --
 -- The claims: `answered`, `answered-only`; `room-length`, `room-plan`, `room-rest`. Assumes nothing.
 use mathlib.Core.Path.{_≡_, refl, sym, _∙_, ap, subst}
-use mathlib.Core.List.{List, [], _∷_, _++_}
-use Prim.Native.Nat.{ℕ, _≤_, _<_}
+use mathlib.Core.List.{List}
+use Prim.Native.Nat.{ℕ, _≤_}
 use native.Mathlib.Omega.{arith}
 use lib.ListN.{length, take, drop, length-append, length-drop}
 use lib.Seq.{take-append-seam, drop-append-seam}
 use lib.IntN.{ℤ}
 use Rattle.hall.specs.Hall.{Hall, Plan}
-use Rattle.hall.specs.Walk.{Best, noneYet, soFar, Walked, walkHall}
+use Rattle.hall.specs.Walk.{Best, noneYet, soFar, walkHall}
 use Rattle.hall.specs.Ranges.{SheetOf}
 use Rattle.hall.specs.Reading.{Read, bad, got, decode}
 use Rattle.hall.specs.Answer.{Answer, least, none, spent, refused, finished, within, answerRead, answer, roomAfter}
-use Rattle.hall.specs.Demands.{SaysLeast, SaysNone, SaysSpent, Answered}
+use Rattle.hall.specs.Demands.{Answered}
 use Rattle.hall.proofs.Least.{best-least, least-best, none-best, best-none}
 use Rattle.hall.proofs.Sums.{cost-sum, held-sum}
 use Rattle.hall.proofs.Reasons.{Verdict, verdict, verdict-only}

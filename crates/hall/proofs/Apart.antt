@@ -5,9 +5,9 @@
 -- unmet rule is wholly free (`first-free`). Assumes nothing.
 use mathlib.Core.Path.{_≡_, refl, ap}
 use mathlib.Core.Logic.{_⊎_, inl, inr, _≢_}
-use mathlib.Core.Bool.{Bool, true, false, not}
+use mathlib.Core.Bool.{true, false, not}
 use mathlib.Core.List.{List, [], _∷_, _++_}
-use Prim.Native.Nat.{ℕ, zero, suc, _<_}
+use Prim.Native.Nat.{ℕ, suc, _<_}
 use native.Mathlib.Omega.{arith}
 use lib.ListN.{length, replicate, getD-replicate}
 use lib.Dec.{eqb}
@@ -108,7 +108,7 @@ unfolding unmet firstUnmet
 fit-hold p e f (r ∷ rs) o x i = go (test (meetsRule p r)) (x .0) (λ j. fit-hold p e f rs (o .2) (x .1) j)
   where
     go : (meetsRule p r ≡ true) ⊎ (meetsRule p r ≡ false) → (meetsRule p r ≡ true) ⊎ AllFree p r → (In e (firstUnmet p rs) → Fit (hold p e) rs × (suc (unmet (hold p e) rs) ≡ unmet p rs))
-      → Fit (hold p e) (r ∷ rs) × (suc (unmet (hold p e) (r ∷ rs)) ≡ unmet p (r ∷ rs))
+        → Fit (hold p e) (r ∷ rs) × (suc (unmet (hold p e) (r ∷ rs)) ≡ unmet p (r ∷ rs))
     go (inl u) y ih =
         let v = meets-mono r (hold-extends p e f) u in
         let w = ih (rw u at i) in
@@ -127,7 +127,7 @@ first-free p k [] o x w d u = absurd (omega arith)
 first-free p k (r ∷ rs) o x w d u = go (x .0) (first-free p k rs (o .2) (x .1) (w .1) d)
   where
     go : (meetsRule p r ≡ true) ⊎ AllFree p r → (unmet p rs ≡ suc d → AllFree p (firstUnmet p rs) × (length (firstUnmet p rs) ≡ k) × (meetsAll p rs ≡ false))
-      → AllFree p (firstUnmet p (r ∷ rs)) × (length (firstUnmet p (r ∷ rs)) ≡ k) × (meetsAll p (r ∷ rs) ≡ false)
+        → AllFree p (firstUnmet p (r ∷ rs)) × (length (firstUnmet p (r ∷ rs)) ≡ k) × (meetsAll p (r ∷ rs) ≡ false)
     go (inl y) ih = rw y (ih (rw y at u))
     go (inr y) ih = rw (free-unmet p r (o .0) y) (y, w .0, refl)
 

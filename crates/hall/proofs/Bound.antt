@@ -12,7 +12,7 @@ use native.Mathlib.Omega.{arith}
 use lib.ListN.{length}
 use Rattle.hall.specs.Hall.{Entry, Rule, Hall, Plan, isFree, hold, meetsRule, meetsAll, firstUnmet}
 use Rattle.hall.specs.Order.{heldOf}
-use Rattle.hall.specs.Walk.{Best, noneYet, Walked, Walker, shut, still, after, entryBy, through, opening, nodeBy, node, walk, walkFrom, start, walkHall}
+use Rattle.hall.specs.Walk.{Best, noneYet, Walker, shut, still, after, entryBy, through, opening, nodeBy, node, walk, walkFrom, start, walkHall}
 use Rattle.hall.specs.Bound.{widest, powerSum, boundOf}
 use Rattle.hall.proofs.Cases.{Tri, tri, below, level, above}
 use Rattle.hall.proofs.Plans.{hold-held, hold-length, held-all, start-plan}
@@ -63,18 +63,25 @@ through-opens c p (e ∷ es) x k b = go (isFree p e) refl (through-opens c p es 
 -- ── a number that falls with each child ──
 module _ (h : Hall) (μ : Plan → ℕ) (falls : (p : Plan) (e : Entry) → In e (firstUnmet p (h .rules)) → isFree p e ≡ true → μ (hold p e) < μ p) where
   node-opens : (c : Walker) (p : Plan) → ((e : Entry) (b : Best) → c (hold p e) b .opened ≤ powerSum (widest (h .rules)) (μ (hold p e)))
-    → (b : Best) → node c h p b .opened ≤ powerSum (widest (h .rules)) (μ p)
+      → (b : Best) → node c h p b .opened ≤ powerSum (widest (h .rules)) (μ p)
   unfolding node nodeBy opening still
   node-opens c p k b = go (meetsAll p (h .rules)) (shut h p b)
     where
       w : ℕ
       w = widest (h .rules)
+
       r : Rule
       r = firstUnmet p (h .rules)
+
       deep : (d : ℕ) → μ p ≡ d → suc (through c p r b .opened) ≤ powerSum w d
       deep zero u = omega (arith, powers-one w 0, through-opens c p r 0 (λ e b i f. absurd (omega (arith, falls p e i f))) b)
-      deep (suc d) u = omega (arith, horner w d, mul-le-mul-right (powerSum w d) (first-wide p (h .rules)),
-        through-opens c p r (powerSum w d) (λ e b i f. le-trans (k e b) (powers-mono w d (omega (arith, falls p e i f)))) b)
+      deep (suc d) u = omega (
+        arith,
+        horner w d,
+        mul-le-mul-right (powerSum w d) (first-wide p (h .rules)),
+        through-opens c p r (powerSum w d) (λ e b i f. le-trans (k e b) (powers-mono w d (omega (arith, falls p e i f)))) b,
+      )
+
       go : (s t : Bool) → suc (nodeBy s t c h p b .opened) ≤ powerSum w (μ p)
       go true t = powers-one _ _
       go false true = powers-one _ _
@@ -104,16 +111,21 @@ opens-bounded h = go (tri n m)
   where
     n : ℕ
     n = length (h .costs)
+
     m : ℕ
     m = length (h .rules)
+
     free : ℕ
     free = length (start h) - heldOf (start h)
+
     by-devices : walk h free (start h) noneYet .opened ≤ powerSum (widest (h .rules)) n
     by-devices =
         let few : free ≤ n = omega (arith, start-plan h .size) in
         le-trans (walk-opens h (λ p. length p - heldOf p) (λ p e i f. omega (arith, hold-held p e f, hold-length p e, held-all (hold p e))) free (start h) noneYet) (powers-mono (widest (h .rules)) n few)
+
     by-rules : walk h free (start h) noneYet .opened ≤ powerSum (widest (h .rules)) m
     by-rules = le-trans (walk-opens h (λ p. unmet p (h .rules)) (λ p e i f. unmet-falls p e (h .rules) i f) free (start h) noneYet) (powers-mono (widest (h .rules)) m (unmet-rules (start h) (h .rules)))
+
     go : Tri n m → walk h free (start h) noneYet .opened ≤ powerSum (widest (h .rules)) (min n m)
     go (below u) = let e : min n m ≡ n = omega arith in rw e by-devices
     go (level u) = let e : min n m ≡ n = omega arith in rw e by-devices

@@ -15,9 +15,9 @@ use Rattle.hall.specs.Walk.{Best, noneYet, soFar, Walked, walkHall}
 use Rattle.hall.specs.Ranges.{SheetOf}
 use Rattle.hall.specs.Bound.{boundOf}
 use Rattle.hall.specs.Reading.{Fault, Read, bad, got, decode}
-use Rattle.hall.specs.Answer.{Answer, least, none, spent, refused, finished, spentBy, within, answerRead, answer, nodesOf, Finished}
+use Rattle.hall.specs.Answer.{spent, refused, finished, within, answerRead, answer, nodesOf, Finished}
 use Rattle.hall.proofs.Bound.{opens-bounded}
-use Rattle.hall.proofs.Accepted.{accepted}
+use Rattle.hall.proofs.Sheets.{accepted}
 
 -- ── of a walk ──
 finished-is : (h : Hall) (n : ℕ) (b : Best) → Finished (finished h n b)
@@ -66,6 +66,7 @@ module _ (ws : List ℤ) (room : ℕ) where
       walked : (h : Hall) → Outcome h budget (walkHall h) → within h budget (walkHall h) ≡ spent n → n ≡ budget
       walked h (stops l u) e = cc
       walked h (ends l u) e = absurd (subst Finished (sym u ∙ e) (finished-is h (walkHall h .opened) (walkHall h .best)))
+
       read : (x : Read Hall) → answerRead budget x ≡ spent n → n ≡ budget
       read (bad f i) e = absurd (subst Finished e tt)
       read (got h j) e = walked h (outcome h budget (walkHall h)) e
@@ -77,6 +78,7 @@ module _ (ws : List ℤ) (room : ℕ) where
       walked : (h : Hall) → Outcome h budget (walkHall h) → nodesOf (within h budget (walkHall h)) ≤ budget
       walked h (stops l u) = rw u (omega arith)
       walked h (ends l u) = rw (u, finished-nodes h (walkHall h .opened) (walkHall h .best)) l
+
       read : (x : Read Hall) → nodesOf (answerRead budget x) ≤ budget
       read (bad f i) = zero-le
       read (got h j) = walked h (outcome h budget (walkHall h))
@@ -88,6 +90,7 @@ module _ (ws : List ℤ) (room : ℕ) where
       walked : (h : Hall) → Outcome h budget (walkHall h) → Finished (within h budget (walkHall h)) → within h more (walkHall h) ≡ within h budget (walkHall h)
       walked h (stops k u) f = absurd (subst Finished u f)
       walked h (ends k u) f = enough h more (walkHall h) (omega arith) ∙ sym u
+
       read : (x : Read Hall) → Finished (answerRead budget x) → answerRead more x ≡ answerRead budget x
       read (bad c i) f = refl
       read (got h j) f = walked h (outcome h budget (walkHall h)) f
@@ -106,9 +109,11 @@ module _ (ws : List ℤ) (room : ℕ) where
       ended : (h : Hall) (n : ℕ) (b : Best) → finished h n b ≡ refused f i → answerRead other (bad f i) ≡ within h other (walkHall h)
       ended h n noneYet e = absurd (let z : _≡_ {A = ℕ} 0 1 = cc in omega arith)
       ended h n (soFar p) e = absurd (let z : _≡_ {A = ℕ} 0 1 = cc in omega arith)
+
       walked : (h : Hall) → Outcome h budget (walkHall h) → within h budget (walkHall h) ≡ refused f i → within h other (walkHall h) ≡ refused f i
       walked h (stops l u) e = absurd (let z : _≡_ {A = ℕ} 0 1 = cc in omega arith)
       walked h (ends l u) e = sym (ended h (walkHall h .opened) (walkHall h .best) (sym u ∙ e))
+
       read : (x : Read Hall) → answerRead budget x ≡ refused f i → answerRead other x ≡ refused f i
       read (bad c p) e = e
       read (got h j) e = walked h (outcome h budget (walkHall h)) e

@@ -3,25 +3,22 @@
 -- In order: a word at a place, and what is due after it; how far a sheet is right (`Reached`) and where it stops (`Stopped`);
 -- from where something is due, each reader, from a word to a hall, either leads to where the next is due or stops (`Tracks`,
 -- `hall-tracks`); no sheet is stopped in two ways (`stopped-only`), or stopped and whole (`whole-not-stopped`). Assumes nothing.
-use mathlib.Core.Path.{_≡_, refl, sym, _∙_, ap, subst}
+use mathlib.Core.Path.{_≡_, refl, sym, _∙_, ap}
 use mathlib.Core.Logic.{_⊎_, inl, inr, _≢_}
-use mathlib.Core.Bool.{Bool, true, false, _&&_}
-use mathlib.Core.List.{List, [], _∷_, _++_}
+use mathlib.Core.Bool.{Bool, true, false}
+use mathlib.Core.List.{List, [], _∷_}
 use mathlib.Core.Option.{Option, none, some}
-use Prim.Native.Nat.{ℕ, zero, suc, _+_, _≤_, _<_, zero-le, suc-le-suc}
+use Prim.Native.Nat.{ℕ, zero, suc, _≤_, _<_, zero-le, suc-le-suc}
 use native.Mathlib.Omega.{arith}
-use lib.ListN.{length, getD, take, drop, getElem?, length-append}
-use lib.Seq.{take-length, drop-cons}
+use lib.ListN.{length, getD, take, getElem?}
+use lib.Seq.{take-length}
 use lib.IntN.{ℤ, pos, negsuc}
 use lib.Dec.{leb, ltb}
-use borrow.Author.Tests.{ltb-true, ltb-false, le-leb, lt-ltb, le-ltb}
-use Rattle.hall.specs.Hall.{Entry, Rule, Hall}
-use Rattle.hall.specs.Ranges.{InRange, words, SheetOf}
-use Rattle.hall.specs.Reading.{Fault, tooShort, badCount, badCost, badEntry, extraWords, smallRoom, tooLong, Read, bad, got, Reader, then, _>>=_, yield, asRead, atWord, word, onlyIf, upTo, asEntry, times, cost, entry, rule, hall, endedBy, ended, roomBy, hasRoom, decodeBy, decode}
-use Rattle.hall.specs.Due.{Due, deviceCount, deviceCost, ruleCount, ruleWidth, ruleEntry, nothingMore, costsDue, rulesDue, entriesDue, size, next, dueAfter, due, fromZeroTo, inRange, faultOf, rightAt, RightBefore, FirstWrong, EndsTooSoon, WordsAfter, RoomTooShort, TooManyWords, Reason}
+use borrow.Author.Tests.{le-leb}
+use Rattle.hall.specs.Hall.{Entry}
+use Rattle.hall.specs.Reading.{Fault, tooShort, badCount, Read, bad, got, Reader, then, _>>=_, asRead, atWord, word, onlyIf, upTo, asEntry, times, cost, entry, rule, hall}
+use Rattle.hall.specs.Due.{Due, deviceCount, deviceCost, ruleCount, ruleWidth, ruleEntry, nothingMore, costsDue, rulesDue, entriesDue, next, dueAfter, due, fromZeroTo, inRange, faultOf, rightAt, RightBefore, FirstWrong, EndsTooSoon}
 use Rattle.hall.proofs.Cases.{both, Tri, below, level, above, tri}
-use Rattle.hall.proofs.Reading.{reads-on, hall-takes}
-use Rattle.hall.proofs.Accepted.{hall-gives, accepted}
 
 -- ── places ──
 word-at : (ws : List ℤ) (i : ℕ) (w : ℤ) → getElem? ws i ≡ some w → (i < length ws) × (getD ws i (pos 0) ≡ w)
@@ -98,9 +95,11 @@ word-tracks {A} value d k more agrees ws i r = go (getElem? ws i) refl
   where
     n : d ≢ nothingMore
     n = still-due d more
+
     one : (w : ℤ) (x : Option A) → getElem? ws i ≡ some w → Agrees d k w x → Follows ws k (asRead (faultOf d) i x)
     one w none e a = let p = word-at ws i w e in inl (record { short = r .short; inside = p .0; before = r .right; wrong = rw (r .state, p .1) a; kind = ap faultOf (r .state) }, λ e. n (sym (r .state) ∙ e))
     one w (some b) e a = one-right ws i d w (k b) r e (a .0) (a .1)
+
     go : (x : Option ℤ) → getElem? ws i ≡ x → Follows ws k (atWord (faultOf d) value ws i x)
     go none e =
         let l : i ≡ length ws = let a = r .inside in omega (arith, no-word ws i e) in

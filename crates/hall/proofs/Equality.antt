@@ -6,15 +6,15 @@
 -- device for each rule (`Full`), an open node fewer, and equal costs make it no dearer (`not-shut`). With k = 0 the bound is 1
 -- and needs no such argument. The claim: `opens-exactly`. Assumes nothing.
 use mathlib.Core.Path.{_≡_, refl, sym, _∙_, ap, subst}
-use mathlib.Core.Bool.{Bool, true, false}
+use mathlib.Core.Bool.{true}
 use mathlib.Core.List.{List, [], _∷_}
 use Prim.Native.Nat.{ℕ, zero, suc, _+_, _*_, _-_, _≤_, _<_, min}
 use native.Mathlib.Nat.{mul-le-mul-right, suc-mul, zero-mul}
 use native.Mathlib.Omega.{arith}
 use lib.ListN.{length, replicate}
-use Rattle.hall.specs.Hall.{Entry, Rule, Hall, Plan, isFree, hold, meetsAll, firstUnmet}
+use Rattle.hall.specs.Hall.{Entry, Rule, Hall, Plan, isFree, hold, firstUnmet}
 use Rattle.hall.specs.Order.{ifHeld, costOf, heldOf}
-use Rattle.hall.specs.Walk.{Best, noneYet, soFar, Walked, Walker, shut, still, after, entryBy, through, opening, nodeBy, node, walk, walkFrom, start, walkHall}
+use Rattle.hall.specs.Walk.{Best, noneYet, soFar, Walker, still, after, entryBy, through, opening, nodeBy, node, walk, walkFrom, start, walkHall}
 use Rattle.hall.specs.Ranges.{Each, InRange}
 use Rattle.hall.specs.Bound.{widest, depth, powerSum, EqualityCase}
 use Rattle.hall.proofs.Plans.{hold-held, hold-length, held-all, start-plan, start-held}
@@ -37,8 +37,8 @@ cost-level c (suc n) (suc x ∷ p) l = omega (arith, cost-level c n p (omega ari
 
 -- the entries of one node, each of which opens x
 through-exact : (I : Best → Type 0) (c : Walker) (p : Plan) (x : ℕ) (es : Rule) → AllFree p es
-  → ((e : Entry) (b : Best) → In e es → isFree p e ≡ true → I b → (c (hold p e) b .opened ≡ x) × I (c (hold p e) b .best))
-  → (b : Best) → I b → (through c p es b .opened ≡ length es * x) × I (through c p es b .best)
+    → ((e : Entry) (b : Best) → In e es → isFree p e ≡ true → I b → (c (hold p e) b .opened ≡ x) × I (c (hold p e) b .best))
+    → (b : Best) → I b → (through c p es b .opened ≡ length es * x) × I (through c p es b .best)
 unfolding through entryBy after still
 through-exact I c p x [] f k b i = (omega (arith, zero-mul x), i)
 through-exact I c p x (e ∷ es) f k b i =
@@ -70,8 +70,8 @@ module _ (h : Hall) (k : ℕ) (q : EqualityCase h k) (o : Alone (h .rules)) wher
   no-dearer p (soFar b) l u i = (rw (cost-is p l, cost-is b (i .0)) (mul-le-mul-right (q .cost) (omega arith)), omega arith)
 
   node-exact : (c : Walker) (p : Plan) → State p
-    → ((e : Entry) (b : Best) → isFree p e ≡ true → State (hold p e) → All Full b → (c (hold p e) b .opened ≡ powerSum k (unmet (hold p e) (h .rules))) × All Full (c (hold p e) b .best))
-    → (b : Best) → All Full b → (node c h p b .opened ≡ powerSum k (unmet p (h .rules))) × All Full (node c h p b .best)
+      → ((e : Entry) (b : Best) → isFree p e ≡ true → State (hold p e) → All Full b → (c (hold p e) b .opened ≡ powerSum k (unmet (hold p e) (h .rules))) × All Full (c (hold p e) b .best))
+      → (b : Best) → All Full b → (node c h p b .opened ≡ powerSum k (unmet p (h .rules))) × All Full (node c h p b .best)
   unfolding node nodeBy opening still powerSum
   node-exact c p s ih b i = go (unmet p (h .rules)) refl
     where
@@ -101,7 +101,7 @@ module _ (h : Hall) (k : ℕ) (q : EqualityCase h k) (o : Alone (h .rules)) wher
   no-more-rules j kj (suc d) p s u = let f = first-free p k (h .rules) o (s .fit) (q .wide) d u in go (firstUnmet p (h .rules)) (f .1) (f .0) (λ e i g. state-hold p e s i g) (no-more-rules j kj d)
     where
       go : (r : Rule) → length r ≡ k → AllFree p r → ((e : Entry) → In e r → isFree p e ≡ true → State (hold p e) × (suc (unmet (hold p e) (h .rules)) ≡ unmet p (h .rules)))
-        → ((p : Plan) → State p → unmet p (h .rules) ≡ d → length (h .rules) ≤ length (h .costs)) → length (h .rules) ≤ length (h .costs)
+          → ((p : Plan) → State p → unmet p (h .rules) ≡ d → length (h .rules) ≤ length (h .costs)) → length (h .rules) ≤ length (h .costs)
       go [] l f c ih = absurd (omega arith)
       go (e ∷ es) l f c ih = let t = c e first (f .0) in let y = t .1 in ih (hold p e) (t .0) (omega arith)
 
@@ -129,16 +129,22 @@ exactly-more h j r q = walked .0 ∙ reached
   where
     n : ℕ
     n = length (h .costs)
+
     o : Alone (h .rules)
     o = alone (h .rules) (q .apart)
+
     fit : Fit (start h) (h .rules) × (unmet (start h) (h .rules) ≡ length (h .rules))
     fit = start-fit n (h .rules) o (r .good)
+
     state : State h (suc j) q o (start h)
     state = let u = fit .1 in record { size = start-plan h .size; fit = fit .0; sum = rw (start-held n) (omega arith) }
+
     free : ℕ
     free = length (start h) - heldOf (start h)
+
     walked : (walk h free (start h) noneYet .opened ≡ powerSum (suc j) (unmet (start h) (h .rules))) × All (Full h (suc j) q o) (walk h free (start h) noneYet .best)
     walked = walk-exact h (suc j) q o free (start h) (omega arith) state noneYet tt
+
     reached : powerSum (suc j) (unmet (start h) (h .rules)) ≡ powerSum (suc j) (depth h)
     reached =
         let l = no-more-rules h (suc j) q o j refl (unmet (start h) (h .rules)) (start h) state refl in

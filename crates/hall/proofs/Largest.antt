@@ -10,8 +10,8 @@ use native.Mathlib.Omega.{arith}
 use lib.ListN.{length, getD, replicate, length-replicate, getD-replicate, length-append}
 use lib.Seq.{ext-getD}
 use borrow.Author.Tests.{eqb-true}
-use Rattle.hall.specs.Hall.{at1, Rule, Hall, Plan, holds, meetsRule, meetsAll}
-use Rattle.hall.specs.Order.{heldFrom, heldEntries, sumOf, better, MeetsSheet, LeastPlan}
+use Rattle.hall.specs.Hall.{at1, Rule, Plan, holds, meetsRule, meetsAll}
+use Rattle.hall.specs.Order.{heldFrom, sumOf, MeetsSheet, LeastPlan}
 use Rattle.hall.specs.Ranges.{Each, RuleInRange, InRange, wordsOf, ruleWords, words}
 use Rattle.hall.specs.Bound.{entries, absent, once, powerSum, EqualityCase}
 use Rattle.hall.specs.Answer.{least, answer}
@@ -45,7 +45,8 @@ in-range = record {
   devices = omega (arith, length-replicate {A = ℕ} 200 1000000000);
   cheap = each-replicate (λ c. c ≤ 1000000000) 200 1000000000 (omega arith);
   count = omega (arith, singles-count 200);
-  good = singles-each (RuleInRange 200) 200 200 (omega arith) (λ v l. record { width = omega arith; named = (l, tt) }) }
+  good = singles-each (RuleInRange 200) 200 200 (omega arith) (λ v l. record { width = omega arith; named = (l, tt) });
+}
 
 equal : EqualityCase largest 1
 unfolding once absent entries singles
@@ -81,6 +82,7 @@ the-least = record { sheet = record { plan = record { size = refl; marks = small
     small zero v = zero-le
     small (suc n) zero = omega arith
     small (suc n) (suc v) = small n v
+
     same : (q : Plan) → MeetsSheet largest q → q ≡ replicate 200 1
     same q m =
         let l : length q ≡ 200 = m .plan .size in
@@ -95,7 +97,8 @@ largest-answer = answered-only (words largest) 1000 200 (least 200000000000 200 
   total = refl;
   number = refl;
   count = sym (opens-exactly largest 1 in-range equal);
-  allowed = omega arith })
+  allowed = omega arith;
+})
   where
     size : length (words largest) ≡ 602
     size = refl

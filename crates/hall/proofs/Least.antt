@@ -5,16 +5,16 @@
 -- and in step 3 one of the entries leads to that plan (`branches`); (3) whatever holds of the first node and survives a hold
 -- holds of the best, which meets every rule (`walk-sound`). Each is an induction over an arbitrary walker of the children.
 -- The claims: `best-least`, `least-best`, `none-best`, `best-none`, `least-only`. Assumes nothing.
-use mathlib.Core.Path.{_≡_, refl, sym, _∙_, subst}
+use mathlib.Core.Path.{_≡_, refl, subst}
 use mathlib.Core.Logic.{_⊎_, inl, inr}
 use mathlib.Core.Bool.{Bool, true, false, cond}
 use mathlib.Core.List.{List, [], _∷_}
 use Prim.Native.Nat.{ℕ, zero, suc, _+_, _-_, _≤_}
 use native.Mathlib.Omega.{arith}
-use lib.ListN.{length, replicate, length-replicate}
+use lib.ListN.{length, replicate}
 use Rattle.hall.specs.Hall.{Entry, Rule, Hall, Plan, PlanOf, isFree, hold, meetsAll, firstUnmet}
 use Rattle.hall.specs.Order.{heldOf, rank, better, MeetsSheet, LeastPlan, NoPlan}
-use Rattle.hall.specs.Walk.{Best, noneYet, soFar, Walked, Walker, keep, shut, still, after, entryBy, through, opening, nodeBy, node, walk, walkFrom, start, walkHall}
+use Rattle.hall.specs.Walk.{Best, noneYet, soFar, Walker, keep, shut, still, after, entryBy, through, opening, nodeBy, node, walk, walkFrom, start, walkHall}
 use Rattle.hall.proofs.Cases.{test, fails}
 use Rattle.hall.proofs.Order.{not-after, one-way, neither-better}
 use Rattle.hall.proofs.Plans.{Extends, extends-none, extended, start-plan, hold-plan}
@@ -81,8 +81,8 @@ module _ (h : Hall) where
 
   -- ── no plan below a node betters what its walk leaves ──
   through-covers : (c : Walker) → Keeps c → (p : Plan) (es : Rule) (b : Best) (q : Plan)
-    → ((e : Entry) (b : Best) → isFree p e ≡ true → Extends (hold p e) q → AtLeast (h .costs) (c (hold p e) b .best) q)
-    → Branch p q es → AtLeast (h .costs) (through c p es b .best) q
+      → ((e : Entry) (b : Best) → isFree p e ≡ true → Extends (hold p e) q → AtLeast (h .costs) (c (hold p e) b .best) q)
+      → Branch p q es → AtLeast (h .costs) (through c p es b .best) q
   unfolding through entryBy after
   through-covers c k p (e ∷ es) b q ih (here f x) = rw f (through-keeps c k p es _ q (ih e b f x))
   through-covers c k p (e ∷ es) b q ih (there n i) = go (isFree p e) (λ b. through-covers c k p es b q ih i)
@@ -92,8 +92,8 @@ module _ (h : Hall) where
       go false rest = rest b
 
   node-covers : (c : Walker) → Keeps c → (p : Plan) (b : Best) (q : Plan)
-    → ((e : Entry) (b : Best) → isFree p e ≡ true → Extends (hold p e) q → AtLeast (h .costs) (c (hold p e) b .best) q)
-    → Extends p q → meetsAll q (h .rules) ≡ true → AtLeast (h .costs) (node c h p b .best) q
+      → ((e : Entry) (b : Best) → isFree p e ≡ true → Extends (hold p e) q → AtLeast (h .costs) (c (hold p e) b .best) q)
+      → Extends p q → meetsAll q (h .rules) ≡ true → AtLeast (h .costs) (node c h p b .best) q
   unfolding node nodeBy opening still
   node-covers c k p b q ih x m = go (meetsAll p (h .rules)) (shut h p b) refl refl
     where

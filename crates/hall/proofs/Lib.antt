@@ -1,3 +1,5 @@
+-- The theorems, in the order of the argument. AnswerTables stands apart: it computes the tables of known rows.
+pub mod AnswerTables
 pub mod Cases
 pub mod Order
 pub mod Plans
@@ -9,12 +11,11 @@ pub mod Least
 pub mod Bound
 pub mod Apart
 pub mod Equality
+pub mod Sums
 pub mod Reading
-pub mod Accepted
+pub mod Sheets
 pub mod Due
 pub mod Reasons
-pub mod Sums
 pub mod Budget
 pub mod Answers
 pub mod Largest
-pub mod Known

@@ -4,7 +4,7 @@
 -- so it is not better (`extended`); every plan extends the one that holds nothing (`extends-none`); holding a free device as the
 -- other plan holds it (`extends-hold`, `held-or-free`, `still-held`); the laws of `hold` on a free device (`hold-held`,
 -- `hold-holds`, `hold-extends`, `hold-length`, `hold-apart`); plans of a hall (`start-plan`, `hold-plan`). Assumes nothing.
-use mathlib.Core.Path.{_≡_, refl, sym, _∙_}
+use mathlib.Core.Path.{_≡_, refl, _∙_}
 use mathlib.Core.Logic.{_⊎_, inl, inr, _≢_}
 use mathlib.Core.Bool.{true, false}
 use mathlib.Core.List.{List, [], _∷_}

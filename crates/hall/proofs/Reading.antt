@@ -2,7 +2,7 @@
 --
 -- In order: a word at a place, and what lies past some words (`word-drop`, `drop-word`, `past`); one reader after another
 -- (`reads`, `reads-on`); for each reader, from a word to a hall, the words that it took, the next place and the range of its
--- value (`Took`, `hall-takes`). The other way round is Accepted. Assumes nothing.
+-- value (`Took`, `hall-takes`). The other way round is Sheets. Assumes nothing.
 use mathlib.Core.Path.{_≡_, refl, sym, _∙_, ap, subst}
 use mathlib.Core.Bool.{Bool, true, false}
 use mathlib.Core.List.{List, [], _∷_, _++_, append-assoc}
@@ -14,7 +14,7 @@ use lib.Seq.{drop-drop, drop-append-seam}
 use lib.IntN.{ℤ, pos, negsuc}
 use lib.Dec.{leb, ltb}
 use borrow.Author.Tests.{leb-true, ltb-true}
-use Rattle.hall.specs.Hall.{Entry, at1, at0, device, Rule, Hall}
+use Rattle.hall.specs.Hall.{Entry, at1, at0, device, Rule}
 use Rattle.hall.specs.Ranges.{Each, RuleInRange, InRange, wordsOf, numberWords, entryWords, ruleWords, words}
 use Rattle.hall.specs.Reading.{Fault, badCount, badCost, badEntry, Read, bad, got, Reader, then, _>>=_, yield, asRead, atWord, word, onlyIf, upTo, asEntry, times, cost, entry, rule, hall}
 
@@ -82,6 +82,7 @@ word-takes {A} c value f P v ws i a j e = go (getElem? ws i) refl e
     one : (w : ℤ) (x : Option A) → value w ≡ x → getElem? ws i ≡ some w → asRead c i x ≡ got a j → Took f P ws i a j
     one w none u t e = clash e
     one w (some b) u t e = let k = v w b u in moved f P ws i e (record { taken = rw (k .0) (word-drop ws i w t); next = rw (k .0) (omega arith); good = k .1 })
+
     go : (x : Option ℤ) → getElem? ws i ≡ x → atWord c value ws i x ≡ got a j → Took f P ws i a j
     go none t e = clash e
     go (some w) t e = one w (value w) refl t e
@@ -146,11 +147,11 @@ rule-takes n ws i l j e =
 
 -- a hall that was read part by part
 hall-made : (ws : List ℤ) (cs : List ℕ) (rs : List Rule) (n m i j₁ j₂ j₃ j : ℕ)
-  → Took numberWords (λ n. n ≤ 200) ws i n j₁
-  → Took (wordsOf numberWords) (λ l. (length l ≡ n) × Each (λ c. c ≤ 1000000000) l) ws j₁ cs j₂
-  → Took numberWords (λ n. n ≤ 2000) ws j₂ m j₃
-  → Took (wordsOf ruleWords) (λ l. (length l ≡ m) × Each (RuleInRange n) l) ws j₃ rs j
-  → Took words InRange ws i (record { costs = cs; rules = rs }) j
+    → Took numberWords (λ n. n ≤ 200) ws i n j₁
+    → Took (wordsOf numberWords) (λ l. (length l ≡ n) × Each (λ c. c ≤ 1000000000) l) ws j₁ cs j₂
+    → Took numberWords (λ n. n ≤ 2000) ws j₂ m j₃
+    → Took (wordsOf ruleWords) (λ l. (length l ≡ m) × Each (RuleInRange n) l) ws j₃ rs j
+    → Took words InRange ws i (record { costs = cs; rules = rs }) j
 unfolding words
 hall-made ws cs rs n m i j₁ j₂ j₃ j a b c d =
     let na = a .next in
@@ -164,7 +165,8 @@ hall-made ws cs rs n m i j₁ j₂ j₃ j a b c d =
     record {
       taken = rw (lc, lr) (a .taken ∙ ap (λ (w : List ℤ). pos n ∷ w) (b .taken ∙ ap (λ (w : List ℤ). wordsOf numberWords cs ++ w) (c .taken ∙ ap (λ (w : List ℤ). pos m ∷ w) (d .taken)) ∙ sym (append-assoc (wordsOf numberWords cs) (pos m ∷ wordsOf ruleWords rs) (drop j ws))));
       next = omega (arith, length-append (wordsOf numberWords cs) (pos (length rs) ∷ wordsOf ruleWords rs));
-      good = record { devices = omega arith; cheap = b .good .1; count = omega arith; good = rw lc (d .good .1) } }
+      good = record { devices = omega arith; cheap = b .good .1; count = omega arith; good = rw lc (d .good .1) };
+    }
 
 pub hall-takes : Takes hall words InRange
 unfolding hall
@@ -174,7 +176,7 @@ hall-takes ws i h j e =
     let y = reads (word badCount (upTo 2000)) _ ws (x .place) h j (x .two) in
     let z = reads (times (y .value) (rule (w .value))) _ ws (y .place) h j (y .two) in
     moved words InRange ws i (z .two) (hall-made ws (x .value) (z .value) (w .value) (y .value) i (w .place) (x .place) (y .place) (z .place)
-      (count-takes 200 ws i (w .value) (w .place) (w .one))
-      (costs-take (w .value) ws (w .place) (x .value) (x .place) (x .one))
-      (count-takes 2000 ws (x .place) (y .value) (y .place) (y .one))
-      (times-takes (rule (w .value)) ruleWords (RuleInRange (w .value)) (rule-takes (w .value)) (y .value) ws (y .place) (z .value) (z .place) (z .one)))
+    (count-takes 200 ws i (w .value) (w .place) (w .one))
+    (costs-take (w .value) ws (w .place) (x .value) (x .place) (x .one))
+    (count-takes 2000 ws (x .place) (y .value) (y .place) (y .one))
+    (times-takes (rule (w .value)) ruleWords (RuleInRange (w .value)) (rule-takes (w .value)) (y .value) ws (y .place) (z .value) (z .place) (z .one)))

@@ -4,10 +4,10 @@
 -- In order: what stopped the hall's reader is a reason, and the other way round (`stopped-reason`, `reason-stopped`); the
 -- decoder's result has its reason, or is the sheet's hall (`verdict`); nothing else does (`verdict-only`). Assumes nothing.
 use mathlib.Core.Path.{_≡_, refl, sym, _∙_, ap, subst}
-use mathlib.Core.Logic.{_⊎_, inl, inr, _≢_}
+use mathlib.Core.Logic.{inl, inr, _≢_}
 use mathlib.Core.Bool.{Bool, true, false}
 use mathlib.Core.List.{List, [], _∷_, _++_, append-nil}
-use Prim.Native.Nat.{ℕ, suc, _+_, _≤_, _<_}
+use Prim.Native.Nat.{ℕ, suc, _≤_, _<_}
 use native.Mathlib.Omega.{arith}
 use lib.ListN.{length, getD, take, drop, length-append, drop-of-length-le}
 use lib.Seq.{drop-cons}
@@ -16,10 +16,10 @@ use lib.Dec.{ltb}
 use borrow.Author.Tests.{ltb-true, ltb-false, lt-ltb, le-ltb}
 use Rattle.hall.specs.Hall.{Hall}
 use Rattle.hall.specs.Ranges.{InRange, words, SheetOf}
-use Rattle.hall.specs.Reading.{Fault, tooShort, badCount, badCost, badEntry, extraWords, smallRoom, tooLong, Read, bad, got, then, _>>=_, hall, endedBy, ended, roomBy, hasRoom, decodeBy, decode}
-use Rattle.hall.specs.Due.{Due, deviceCount, deviceCost, ruleCount, ruleWidth, ruleEntry, nothingMore, dueAfter, due, faultOf, FirstWrong, EndsTooSoon, WordsAfter, RoomTooShort, TooManyWords, Reason}
+use Rattle.hall.specs.Reading.{Fault, tooShort, badCount, badCost, badEntry, extraWords, smallRoom, tooLong, Read, bad, got, then, hall, endedBy, ended, roomBy, hasRoom, decodeBy, decode}
+use Rattle.hall.specs.Due.{Due, deviceCount, deviceCost, ruleCount, ruleWidth, ruleEntry, nothingMore, dueAfter, due, faultOf, FirstWrong, WordsAfter, Reason}
 use Rattle.hall.proofs.Reading.{hall-takes}
-use Rattle.hall.proofs.Accepted.{hall-gives, accepted}
+use Rattle.hall.proofs.Sheets.{hall-gives, accepted}
 use Rattle.hall.proofs.Due.{Reached, Stopped, Follows, hall-tracks, stopped-only, whole-not-stopped}
 
 -- ── what stopped the hall's reader ──
@@ -29,6 +29,7 @@ stopped-reason ws room f i (inl (w, n)) = subst (λ (f : Fault). Reason f i ws r
   where
     wrong : (d : Due) → due (take i ws) ≡ d → FirstWrong (faultOf d) i ws
     wrong d e = record { short = w .short; inside = w .inside; before = w .before; wrong = w .wrong; kind = ap faultOf e }
+
     go : (d : Due) → due (take i ws) ≡ d → Reason (faultOf d) i ws room
     go deviceCount e = wrong deviceCount e
     go (deviceCost k left) e = wrong (deviceCost k left) e
@@ -84,6 +85,7 @@ module _ (ws : List ℤ) (room : ℕ) where
       on : (x : Read Hall) → hall ws 0 ≡ x → length ws ≤ 16384 → Follows ws (λ (h : Hall). nothingMore) x → Verdict ws room (then (then x ended ws) (hasRoom room) ws)
       on (bad f i) e s h = stopped-reason ws room f i h
       on (got h j) e s r = end-verdict h j s e (r .inside)
+
       go : (t : Bool) → ltb 16384 (length ws) ≡ t → Verdict ws room (decodeBy t room ws)
       go true u = record { long = ltb-true 16384 (length ws) u; place = refl }
       go false u = let s = ltb-false 16384 (length ws) u in on (hall ws 0) refl s (hall-tracks ws 0 (reached s))

@@ -7,13 +7,13 @@
 -- Another test for closing a node is paid for here and nowhere else. Assumes nothing.
 use mathlib.Core.Path.{_≡_, refl, _∙_}
 use mathlib.Core.Logic.{_⊎_, inl, inr}
-use mathlib.Core.Bool.{Bool, true, false, false≢true}
+use mathlib.Core.Bool.{true, false, false≢true}
 use mathlib.Core.List.{List, [], _∷_}
-use Prim.Native.Nat.{ℕ, _+_, _≤_, _<_}
+use Prim.Native.Nat.{ℕ, _≤_, _<_}
 use native.Mathlib.Omega.{arith}
 use Rattle.hall.specs.Hall.{Hall, Plan, meetsAll}
 use Rattle.hall.specs.Order.{costOf, heldOf, less, rank, better}
-use Rattle.hall.specs.Walk.{Best, noneYet, soFar, closes, shut}
+use Rattle.hall.specs.Walk.{Best, noneYet, soFar, oneMore, closes, shut}
 use Rattle.hall.proofs.Cases.{both, Tri, below, level, above, tri}
 use Rattle.hall.proofs.Order.{First, head, tail, first, less-level, less-above, irreflexive}
 use Rattle.hall.proofs.Plans.{Extends, cost-mono, held-more, dearer}
@@ -30,15 +30,15 @@ All P (soFar b) = P b
 
 -- step 2 compares cost and held number plus 1; whatever lies below the node costs no less and holds at least that many
 closes-covers : (cs : List ℕ) (p : Plan) (b : Best) (q : Plan) → closes cs p b ≡ true → costOf cs p ≤ costOf cs q → heldOf p < heldOf q → AtLeast cs b q
-unfolding closes better rank less
+unfolding closes oneMore better rank less
 closes-covers cs p noneYet q h c k = absurd (false≢true h)
 closes-covers cs p (soFar b) q h c k = go (first h)
   where
-    go : First (costOf cs b) (costOf cs p) (heldOf b ∷ []) ((heldOf p + 1) ∷ []) → better cs q b ≡ false
+    go : First (costOf cs b) (costOf cs p) (heldOf b ∷ []) (oneMore p ∷ []) → better cs q b ≡ false
     go (head u) = less-above (costOf cs q) (costOf cs b) (heldOf q ∷ q) (heldOf b ∷ b) (omega arith)
     go (tail u t) = on (first t)
       where
-        on : First (heldOf b) (heldOf p + 1) [] [] → better cs q b ≡ false
+        on : First (heldOf b) (oneMore p) [] [] → better cs q b ≡ false
         on (head v) = dearer cs b q (omega arith) (omega arith)
         on (tail v s) = absurd (false≢true s)
 
@@ -51,12 +51,12 @@ shut-covers h p b q s u x m = closes-covers (h .costs) p b q s (cost-mono (h .co
     on (inr v) = v
 
 pub not-shut : (h : Hall) (p : Plan) (b : Best) → All (λ r. (costOf (h .costs) p ≤ costOf (h .costs) r) × (heldOf p < heldOf r)) b → shut h p b ≡ false
-unfolding shut closes
+unfolding shut closes oneMore
 not-shut h p noneYet a = refl
-not-shut h p (soFar b) a = go (tri (costOf (h .costs) b) (costOf (h .costs) p)) (tri (heldOf b) (heldOf p + 1)) (a .0) (a .1)
+not-shut h p (soFar b) a = go (tri (costOf (h .costs) b) (costOf (h .costs) p)) (tri (heldOf b) (oneMore p)) (a .0) (a .1)
   where
-    go : Tri (costOf (h .costs) b) (costOf (h .costs) p) → Tri (heldOf b) (heldOf p + 1) → costOf (h .costs) p ≤ costOf (h .costs) b → heldOf p < heldOf b
-      → less (costOf (h .costs) b ∷ heldOf b ∷ []) (costOf (h .costs) p ∷ (heldOf p + 1) ∷ []) ≡ false
+    go : Tri (costOf (h .costs) b) (costOf (h .costs) p) → Tri (heldOf b) (oneMore p) → costOf (h .costs) p ≤ costOf (h .costs) b → heldOf p < heldOf b
+        → less (costOf (h .costs) b ∷ heldOf b ∷ []) (costOf (h .costs) p ∷ oneMore p ∷ []) ≡ false
     go (below u) w c k = absurd (omega arith)
     go (level u) (below v) c k = absurd (omega arith)
     go (level u) (level v) c k = less-level _ _ _ _ u ∙ less-level _ _ _ _ v ∙ irreflexive []

@@ -1,13 +1,13 @@
 -- The exact total: a plan's cost and held number are the sums over its held devices, as numbers.
 --
--- In order: the two sums (`cost-sum`, `held-sum`); how large a cost can be (`cost-most`, `cost-in-range`); the largest total,
--- 200 devices at 1,000,000,000 (`largest-total`). Assumes nothing.
+-- In order: the two sums (`cost-sum`, `held-sum`); how large a cost can be (`cost-most`, `cost-in-range`). A whole answer at the
+-- largest total, 200 devices at 1,000,000,000, is Largest. Assumes nothing.
 use mathlib.Core.Path.{_≡_, refl, _∙_}
 use mathlib.Core.List.{List, [], _∷_}
 use Prim.Native.Nat.{ℕ, zero, suc, _+_, _*_, _≤_, zero-le}
 use native.Mathlib.Nat.{suc-mul, mul-le-mul-right, le-trans}
 use native.Mathlib.Omega.{arith}
-use lib.ListN.{length, getD, drop, replicate}
+use lib.ListN.{length, getD, drop}
 use Rattle.hall.specs.Hall.{Hall, Plan, PlanOf}
 use Rattle.hall.specs.Order.{ifHeld, costOf, heldOf, heldBy, heldFrom, heldEntries, sumOf}
 use Rattle.hall.specs.Ranges.{Each, InRange}
@@ -66,7 +66,3 @@ cost-most most (c ∷ cs) a (suc x ∷ p) = let b = a .0 in omega (arith, suc-mu
 
 pub cost-in-range : (h : Hall) → InRange h → (p : Plan) → costOf (h .costs) p ≤ 200000000000
 cost-in-range h r p = le-trans (cost-most 1000000000 (h .costs) (r .cheap) p) (mul-le-mul-right 1000000000 (r .devices))
-
-pub largest-total : costOf (replicate 200 1000000000) (replicate 200 1) ≡ 200000000000
-unfolding costOf ifHeld
-largest-total = refl

@@ -10,7 +10,7 @@ use native.Mathlib.Omega.{arith}
 use lib.ListN.{length}
 use Rattle.hall.specs.Hall.{Entry, Rule, Hall, Plan, isFree, hold, meetsAll, firstUnmet}
 use Rattle.hall.specs.Order.{heldOf}
-use Rattle.hall.specs.Walk.{Best, Walked, Walker, shut, after, entryBy, through, opening, nodeBy, node, walk, walkFrom}
+use Rattle.hall.specs.Walk.{Best, Walker, shut, after, entryBy, through, opening, nodeBy, node, walk, walkFrom}
 use Rattle.hall.proofs.Plans.{hold-held, hold-length, held-all}
 
 -- a child of p has fuel enough for its free devices where p had, one less

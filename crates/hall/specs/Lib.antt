@@ -1,3 +1,4 @@
+-- Document 01, to be read in this order.
 pub mod Hall
 pub mod Order
 pub mod Walk

@@ -79,9 +79,9 @@ asEntry n (negsuc v) = onlyIf (ltb v n) (at0 v)
 unfoldable pub times : {A : Type 0} → ℕ → Reader A → Reader (List A)
 times zero r = yield []
 times (suc k) r = do
-    a ← r
-    rest ← times k r
-    yield (a ∷ rest)
+  a ← r
+  rest ← times k r
+  yield (a ∷ rest)
 
 abbrev pub cost : Reader ℕ
 cost = word badCost (upTo 1000000000)
@@ -92,17 +92,17 @@ entry n = word badEntry (asEntry n)
 -- "each its width and then that many entries"
 unfoldable pub rule : ℕ → Reader Rule
 rule n = do
-    width ← word badCount (upTo 32)
-    times width (entry n)
+  width ← word badCount (upTo 32)
+  times width (entry n)
 
 -- "the device count n, then n costs, device 1 first; the rule count m, then m rules"
 unfoldable pub hall : Reader Hall
 hall = do
-    n ← word badCount (upTo 200)
-    costs ← times n cost
-    m ← word badCount (upTo 2000)
-    rules ← times m (rule n)
-    yield (record { costs = costs; rules = rules })
+  n ← word badCount (upTo 200)
+  costs ← times n cost
+  m ← word badCount (upTo 2000)
+  rules ← times m (rule n)
+  yield (record { costs = costs; rules = rules })
 
 -- 15: "words after the last rule | place of the first such word"
 abbrev pub endedBy : Bool → Hall → Reader Hall

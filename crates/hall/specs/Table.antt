@@ -2,13 +2,13 @@
 --
 -- In order: what a row says and what the definitions say for it; 01's rows with a star; 01's other rows; rows for ways astray
 -- that no starred row tells apart; the largest total. Definitions only; that the rows are right is proofs/Known.
-use mathlib.Core.List.{List, [], _∷_, _++_, map}
+use mathlib.Core.List.{List, [], _∷_, _++_}
 use Prim.Native.Nat.{ℕ, zero, suc}
 use lib.ListN.{replicate}
 use lib.IntN.{ℤ, pos, negsuc}
 use Rattle.hall.specs.Hall.{at1, Rule, Hall}
 use Rattle.hall.specs.Order.{heldEntries}
-use Rattle.hall.specs.Ranges.{wordsOf, entryWords, words}
+use Rattle.hall.specs.Ranges.{wordsOf, entryWords}
 use Rattle.hall.specs.Answer.{Answer, least, none, spent, refused, answer, numbers}
 
 -- an answer as the table writes it: the code and what is returned, then the entries behind `hold`
@@ -66,13 +66,13 @@ starred =
     ∷ row (+ 1 ∷ + 4 ∷ + 1 ∷ + 2 ∷ - 1 ∷ + 1 ∷ []) (0 ∷ 4 ∷ 1 ∷ 3 ∷ []) (+ 1 ∷ [])
     ∷ row fourDevices (0 ∷ 9 ∷ 3 ∷ 10 ∷ []) (+ 2 ∷ + 3 ∷ + 4 ∷ [])
     ∷ row
-        (+ 5 ∷ + 1000000000 ∷ + 1000000000 ∷ + 1000000000 ∷ + 1000000000 ∷ + 1000000000 ∷ + 5 ∷ + 1 ∷ + 1 ∷ + 1 ∷ + 2 ∷ + 1 ∷ + 3 ∷ + 1 ∷ + 4 ∷ + 1 ∷ + 5 ∷ [])
-        (0 ∷ 5000000000 ∷ 5 ∷ 6 ∷ [])
-        (+ 1 ∷ + 2 ∷ + 3 ∷ + 4 ∷ + 5 ∷ [])
+    (+ 5 ∷ + 1000000000 ∷ + 1000000000 ∷ + 1000000000 ∷ + 1000000000 ∷ + 1000000000 ∷ + 5 ∷ + 1 ∷ + 1 ∷ + 1 ∷ + 2 ∷ + 1 ∷ + 3 ∷ + 1 ∷ + 4 ∷ + 1 ∷ + 5 ∷ [])
+    (0 ∷ 5000000000 ∷ 5 ∷ 6 ∷ [])
+    (+ 1 ∷ + 2 ∷ + 3 ∷ + 4 ∷ + 5 ∷ [])
     ∷ row
-        (+ 4 ∷ + 1000000000 ∷ + 1000000000 ∷ + 1000000000 ∷ + 1000000000 ∷ + 3 ∷ + 2 ∷ + 1 ∷ + 4 ∷ + 2 ∷ + 2 ∷ + 4 ∷ + 2 ∷ + 3 ∷ + 4 ∷ [])
-        (0 ∷ 1000000000 ∷ 1 ∷ 7 ∷ [])
-        (+ 4 ∷ [])
+    (+ 4 ∷ + 1000000000 ∷ + 1000000000 ∷ + 1000000000 ∷ + 1000000000 ∷ + 3 ∷ + 2 ∷ + 1 ∷ + 4 ∷ + 2 ∷ + 2 ∷ + 4 ∷ + 2 ∷ + 3 ∷ + 4 ∷ [])
+    (0 ∷ 1000000000 ∷ 1 ∷ 7 ∷ [])
+    (+ 4 ∷ [])
     ∷ []
 
 -- 01's other rows

@@ -29,11 +29,15 @@ unfoldable pub keep : List ℕ → Plan → Best → Plan
 keep cs p noneYet = p
 keep cs p (soFar b) = cond (better cs p b) p b
 
+-- step 2: "the node's held number plus 1", what each plan below a node that does not meet every rule holds at the least
+unfoldable pub oneMore : Plan → ℕ
+oneMore p = heldOf p + 1
+
 -- step 2: "if there is a best so far and the node's cost is above the best's, or the costs are equal and the node's held number
 -- plus 1 is above the best's"
 unfoldable pub closes : List ℕ → Plan → Best → Bool
 closes cs p noneYet = false
-closes cs p (soFar b) = less (costOf cs b ∷ heldOf b ∷ []) (costOf cs p ∷ (heldOf p + 1) ∷ [])
+closes cs p (soFar b) = less (costOf cs b ∷ heldOf b ∷ []) (costOf cs p ∷ oneMore p ∷ [])
 
 -- what closes a node that does not meet every rule
 unfoldable pub shut : Hall → Plan → Best → Bool

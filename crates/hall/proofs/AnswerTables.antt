@@ -4,20 +4,20 @@ use mathlib.Core.Path.{_≡_, refl}
 use mathlib.Core.List.{map}
 use Rattle.hall.specs.Hall.{holds, isFree, hold, meetsRule, meetsAll, firstUnmet}
 use Rattle.hall.specs.Order.{ifHeld, costOf, heldOf, heldFrom, less, rank, better}
-use Rattle.hall.specs.Walk.{keep, closes, shut, still, after, entryBy, through, opening, nodeBy, node, walk, walkFrom, start, walkHall}
+use Rattle.hall.specs.Walk.{keep, oneMore, closes, shut, still, after, entryBy, through, opening, nodeBy, node, walk, walkFrom, start, walkHall}
 use Rattle.hall.specs.Ranges.{wordsOf}
 use Rattle.hall.specs.Reading.{times, rule, hall, decodeBy, decode}
 use Rattle.hall.specs.Answer.{answer}
 use Rattle.hall.specs.Table.{Row, outcome, starred, unstarred, astray}
 
 pub starred-right : map outcome starred ≡ map (λ (r : Row). r .expected) starred
-unfolding starred outcome answer decode decodeBy hall rule times walkHall walkFrom start walk node nodeBy opening through entryBy after still shut closes keep better rank less heldFrom heldOf costOf ifHeld firstUnmet meetsAll meetsRule hold isFree holds wordsOf
+unfolding starred outcome answer decode decodeBy hall rule times walkHall walkFrom start walk node nodeBy opening through entryBy after still shut closes oneMore keep better rank less heldFrom heldOf costOf ifHeld firstUnmet meetsAll meetsRule hold isFree holds wordsOf
 starred-right = refl
 
 pub unstarred-right : map outcome unstarred ≡ map (λ (r : Row). r .expected) unstarred
-unfolding unstarred outcome answer decode decodeBy hall rule times walkHall walkFrom start walk node nodeBy opening through entryBy after still shut closes keep better rank less heldFrom heldOf costOf ifHeld firstUnmet meetsAll meetsRule hold isFree holds wordsOf
+unfolding unstarred outcome answer decode decodeBy hall rule times walkHall walkFrom start walk node nodeBy opening through entryBy after still shut closes oneMore keep better rank less heldFrom heldOf costOf ifHeld firstUnmet meetsAll meetsRule hold isFree holds wordsOf
 unstarred-right = refl
 
 pub astray-right : map outcome astray ≡ map (λ (r : Row). r .expected) astray
-unfolding astray outcome answer decode decodeBy hall rule times walkHall walkFrom start walk node nodeBy opening through entryBy after still shut closes keep better rank less heldFrom heldOf costOf ifHeld firstUnmet meetsAll meetsRule hold isFree holds wordsOf
+unfolding astray outcome answer decode decodeBy hall rule times walkHall walkFrom start walk node nodeBy opening through entryBy after still shut closes oneMore keep better rank less heldFrom heldOf costOf ifHeld firstUnmet meetsAll meetsRule hold isFree holds wordsOf
 astray-right = refl

@@ -2,17 +2,17 @@
 --
 -- In order: what stands on the sheet and is in its range is given, for each reader from a word to a hall (`Gives`,
 -- `hall-gives`); the whole sheet (`accepted`). That nothing else is accepted is `decoded`, in Reasons. Assumes nothing.
-use mathlib.Core.Path.{_≡_, refl, sym, _∙_, ap}
+use mathlib.Core.Path.{_≡_, sym, _∙_, ap}
 use mathlib.Core.List.{List, [], _∷_, _++_, append-assoc, append-nil}
 use mathlib.Core.Option.{Option, some}
-use Prim.Native.Nat.{ℕ, zero, suc, _+_, _≤_, _<_}
+use Prim.Native.Nat.{ℕ, _+_, _≤_, _<_}
 use native.Mathlib.Omega.{arith}
 use lib.ListN.{length, drop, length-append}
 use lib.IntN.{ℤ, pos}
 use borrow.Author.Tests.{le-leb, lt-ltb, le-ltb}
-use Rattle.hall.specs.Hall.{Entry, at1, at0, device, Rule, Hall}
+use Rattle.hall.specs.Hall.{at1, at0, device, Hall}
 use Rattle.hall.specs.Ranges.{Each, RuleInRange, InRange, wordsOf, numberWords, entryWords, ruleWords, words, SheetOf}
-use Rattle.hall.specs.Reading.{Fault, badCount, badCost, badEntry, Read, got, Reader, _>>=_, yield, word, upTo, asEntry, times, cost, entry, rule, hall, ended, hasRoom, decodeBy, decode}
+use Rattle.hall.specs.Reading.{Fault, badCount, badCost, badEntry, got, Reader, _>>=_, yield, word, upTo, asEntry, times, cost, entry, rule, hall, ended, hasRoom, decodeBy, decode}
 use Rattle.hall.proofs.Reading.{drop-word, past, reads-on}
 
 -- ── what stands on the sheet is given ──
