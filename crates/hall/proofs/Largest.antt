@@ -17,17 +17,10 @@ use Rattle.hall.specs.Bound.{entries, absent, once, powerSum, EqualityCa
 use Rattle.hall.specs.Answer.{least, answer}
 use Rattle.hall.specs.Table.{singles, largest}
 use Rattle.hall.proofs.Cases.{and-both, Tri, below, level, above, tri}
+use Rattle.hall.proofs.Each.{each-append, each-replicate}
 use Rattle.hall.proofs.Order.{better-irreflexive}
 use Rattle.hall.proofs.Equality.{opens-exactly}
 use Rattle.hall.proofs.Answers.{answered-only}
-
-each-append : {A : Type 0} (P : A → Type 0) (l m : List A) → Each P l → Each P m → Each P (l ++ m)
-each-append P [] m a b = b
-each-append P (x ∷ l) m a b = (a .0, each-append P l m (a .1) b)
-
-each-replicate : {A : Type 0} (P : A → Type 0) (n : ℕ) (a : A) → P a → Each P (replicate n a)
-each-replicate P zero a p = tt
-each-replicate P (suc n) a p = (p, each-replicate P n a p)
 
 -- what holds of each rule of one entry below n holds of the first m of them
 singles-each : (P : Rule → Type 0) (n m : ℕ) → m ≤ n → ((v : ℕ) → v < n → P (at1 v ∷ [])) → Each P (singles m)

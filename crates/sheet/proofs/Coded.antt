@@ -1,0 +1,162 @@
+-- The coded arrays read back as the hall, and what the walk needs of them.
+--
+-- In order: lengths; one element of a list, by what lies from its place on (`drop-head`); a code is its entry's (`code-entry`,
+-- `code-device`); rules read back (`rules-back`); starts and codes, place by place (`starts-laid`, `starts-last`, `codes-named`); arrays
+-- that hold a hall (`hall-back`, `hall-laid`). Assumes nothing.
+use mathlib.Core.Path.{_≡_, refl, sym, _∙_, ap}
+use mathlib.Core.List.{List, [], _∷_, _++_, append-assoc}
+use Prim.Native.Nat.{ℕ, zero, suc, _+_, _-_, _/_, _%_, _≤_, _<_, zero-le}
+use native.Mathlib.Nat.{zero-add}
+use native.Mathlib.Omega.{arith}
+use lib.ListN.{length, getD, take, drop, length-append}
+use lib.Seq.{sets-eq, take-append-seam, drop-drop, drop-at}
+use Rattle.hall.specs.Hall.{Entry, at1, at0, device, Rule, Hall}
+use Rattle.hall.specs.Ranges.{Each, RuleInRange, InRange}
+use Rattle.hall.specs.Bound.{entries}
+use Rattle.hall.proofs.Each.{each-append}
+use Rattle.sheet.specs.Coded.{entryOf, entriesOf, rulesOf, hallOf, Laid, codeOf, codesOf, startsFrom}
+use Rattle.sheet.specs.Contract.{inFront, Holds}
+use Rattle.sheet.proofs.Standing.{codes-append}
+
+-- ── lengths ──
+pub in-front : (numbers array : List ℕ) → length numbers ≤ length array → inFront numbers array ≡ numbers ++ drop (length numbers) array
+in-front numbers array l =
+    let z : 0 + length numbers ≡ length numbers = omega arith in
+    sets-eq numbers array 0 (omega arith) ∙ ap (λ (k : ℕ). numbers ++ drop k array) z
+
+pub codes-length : (es : List Entry) → length (codesOf es) ≡ length es
+unfolding codesOf
+codes-length [] = refl
+codes-length (e ∷ es) = ap suc (codes-length es)
+
+pub starts-length : (first : ℕ) (rs : List Rule) → length (startsFrom first rs) ≡ suc (length rs)
+unfolding startsFrom
+starts-length first [] = refl
+starts-length first (r ∷ rs) = ap suc (starts-length (first + length r) rs)
+
+-- ── one element ──
+drop-head : (l : List ℕ) (at x : ℕ) (xs : List ℕ) → drop at l ≡ x ∷ xs → (getD l at 0 ≡ x) × (drop (at + 1) l ≡ xs)
+drop-head [] zero x xs h = absurd (let z : _≡_ {A = ℕ} 0 1 = cc in omega arith)
+drop-head [] (suc at) x xs h = absurd (let z : _≡_ {A = ℕ} 0 1 = cc in omega arith)
+drop-head (w ∷ l) zero x xs h = (cc, cc)
+drop-head (w ∷ l) (suc at) x xs h = let i = drop-head l at x xs h in let q : suc at + 1 ≡ suc (at + 1) = omega arith in (i .0, rw q (i .1))
+
+drop-more : (l : List ℕ) (at k : ℕ) (xs ys : List ℕ) → drop at l ≡ xs ++ ys → length xs ≡ k → drop (at + k) l ≡ ys
+drop-more l at k xs ys h e = sym (drop-drop k at l) ∙ rw h (drop-at xs ys k e)
+
+-- ── codes ──
+code-entry : (e : Entry) → entryOf (codeOf e) ≡ e
+unfolding entryOf codeOf
+code-entry (at1 v) = let a : (v + v) % 2 ≡ 0 = omega arith in let b : (v + v) / 2 ≡ v = omega arith in rw (a, b)
+code-entry (at0 v) = let a : (v + v + 1) % 2 ≡ 1 = omega arith in let b : (v + v + 1) / 2 ≡ v = omega arith in rw (a, b)
+
+code-device : (e : Entry) → codeOf e / 2 ≡ device e
+unfolding codeOf
+code-device (at1 v) = omega arith
+code-device (at0 v) = omega arith
+
+entries-back : (codes : List ℕ) (at : ℕ) (es : Rule) (rest : List ℕ) → drop at codes ≡ codesOf es ++ rest → entriesOf codes at (length es) ≡ es
+unfolding entriesOf codesOf
+entries-back codes at [] rest h = refl
+entries-back codes at (e ∷ es) rest h =
+    let i = drop-head codes at (codeOf e) (codesOf es ++ rest) h in
+    rw (i .0, code-entry e, entries-back codes (at + 1) es rest (i .1))
+
+-- ── rules ──
+-- the first start of rules, and the next
+starts-head : (first : ℕ) (rs : List Rule) (starts : List ℕ) (r : ℕ) (rest : List ℕ) → drop r starts ≡ startsFrom first rs ++ rest → getD starts r 0 ≡ first
+unfolding startsFrom
+starts-head first [] starts r rest h = drop-head starts r first rest h .0
+starts-head first (x ∷ rs) starts r rest h = drop-head starts r first (startsFrom (first + length x) rs ++ rest) h .0
+
+starts-tail : (first : ℕ) (x : Rule) (rs : List Rule) (starts : List ℕ) (r : ℕ) (rest : List ℕ) → drop r starts ≡ startsFrom first (x ∷ rs) ++ rest → drop (r + 1) starts ≡ startsFrom (first + length x) rs ++ rest
+unfolding startsFrom
+starts-tail first x rs starts r rest h = drop-head starts r first (startsFrom (first + length x) rs ++ rest) h .1
+
+rules-back : (codes starts : List ℕ) (first r : ℕ) (rs : List Rule) (rest rest′ : List ℕ) → drop first codes ≡ codesOf (entries rs) ++ rest → drop r starts ≡ startsFrom first rs ++ rest′ → rulesOf codes starts r (length rs) ≡ rs
+unfolding rulesOf entries
+rules-back codes starts first r [] rest rest′ h k = refl
+rules-back codes starts first r (x ∷ rs) rest rest′ h k =
+    let split : drop first codes ≡ codesOf x ++ (codesOf (entries rs) ++ rest) = h ∙ ap (λ (l : List ℕ). l ++ rest) (codes-append x (entries rs)) ∙ append-assoc (codesOf x) (codesOf (entries rs)) rest in
+    let tail = starts-tail first x rs starts r rest′ k in
+    let a = starts-head first (x ∷ rs) starts r rest′ k in
+    let b = starts-head (first + length x) rs starts (r + 1) rest′ tail in
+    let w : first + length x - first ≡ length x = omega arith in
+    rw (a, b, w, entries-back codes first x (codesOf (entries rs) ++ rest) split, rules-back codes starts (first + length x) (r + 1) rs rest rest′ (drop-more codes first (length x) (codesOf x) _ split (codes-length x)) tail)
+
+-- ── place by place ──
+starts-laid : (n : ℕ) (starts : List ℕ) (first r₀ : ℕ) (rs : List Rule) (rest : List ℕ) → Each (RuleInRange n) rs → drop r₀ starts ≡ startsFrom first rs ++ rest → (r : ℕ) → r₀ ≤ r → r < r₀ + length rs
+    → (getD starts r 0 ≤ getD starts (r + 1) 0) × (getD starts (r + 1) 0 ≤ getD starts r 0 + 32) × (getD starts (r + 1) 0 ≤ first + length (entries rs))
+unfolding entries
+starts-laid n starts first r₀ [] rest g h r le lt = absurd (omega arith)
+starts-laid n starts first r₀ (x ∷ rs) rest g h r le lt = go (r - r₀) refl (λ l m. starts-laid n starts (first + length x) (r₀ + 1) rs rest (g .1) tail r l m)
+  where
+    tail : drop (r₀ + 1) starts ≡ startsFrom (first + length x) rs ++ rest
+    tail = starts-tail first x rs starts r₀ rest h
+
+    go : (k : ℕ) → r - r₀ ≡ k
+        → (r₀ + 1 ≤ r → r < r₀ + 1 + length rs → (getD starts r 0 ≤ getD starts (r + 1) 0) × (getD starts (r + 1) 0 ≤ getD starts r 0 + 32) × (getD starts (r + 1) 0 ≤ first + length x + length (entries rs)))
+        → (getD starts r 0 ≤ getD starts (r + 1) 0) × (getD starts (r + 1) 0 ≤ getD starts r 0 + 32) × (getD starts (r + 1) 0 ≤ first + length (x ++ entries rs))
+    go zero u ih =
+        let q : r ≡ r₀ = omega arith in
+        let a : getD starts r 0 ≡ first = rw q (starts-head first (x ∷ rs) starts r₀ rest h) in
+        let b : getD starts (r + 1) 0 ≡ first + length x = rw q (starts-head (first + length x) rs starts (r₀ + 1) rest tail) in
+        let w = g .0 .width in
+        (omega arith, omega arith, omega (arith, length-append x (entries rs)))
+    go (suc k) u ih = let i = ih (omega arith) (omega arith) in (i .0, i .1, omega (arith, i .2, length-append x (entries rs)))
+
+starts-last : (starts : List ℕ) (first r : ℕ) (rs : List Rule) (rest : List ℕ) → drop r starts ≡ startsFrom first rs ++ rest → getD starts (r + length rs) 0 ≡ first + length (entries rs)
+unfolding entries
+starts-last starts first r [] rest h = ap (λ (k : ℕ). getD starts k 0) (omega arith) ∙ starts-head first [] starts r rest h ∙ omega arith
+starts-last starts first r (x ∷ rs) rest h =
+    let q : r + suc (length rs) ≡ r + 1 + length rs = omega arith in
+    ap (λ (k : ℕ). getD starts k 0) q ∙ starts-last starts (first + length x) (r + 1) rs rest (starts-tail first x rs starts r rest h) ∙ omega (arith, length-append x (entries rs))
+
+codes-named : (n : ℕ) (codes : List ℕ) (at : ℕ) (es : List Entry) (rest : List ℕ) → Each (λ e. device e < n) es → drop at codes ≡ codesOf es ++ rest → (i : ℕ) → at ≤ i → i < at + length es → getD codes i 0 / 2 < n
+unfolding codesOf
+codes-named n codes at [] rest b h i le lt = absurd (omega arith)
+codes-named n codes at (e ∷ es) rest b h i le lt = go (i - at) refl (λ l m. codes-named n codes (at + 1) es rest (b .1) (drop-head codes at (codeOf e) (codesOf es ++ rest) h .1) i l m)
+  where
+    go : (k : ℕ) → i - at ≡ k → (at + 1 ≤ i → i < at + 1 + length es → getD codes i 0 / 2 < n) → getD codes i 0 / 2 < n
+    go zero u ih = let q : i ≡ at = omega arith in rw (q, drop-head codes at (codeOf e) (codesOf es ++ rest) h .0, code-device e) (b .0)
+    go (suc k) u ih = ih (omega arith) (omega arith)
+
+entries-named : (n : ℕ) (rs : List Rule) → Each (RuleInRange n) rs → Each (λ e. device e < n) (entries rs)
+unfolding entries
+entries-named n [] g = tt
+entries-named n (r ∷ rs) g = each-append (λ e. device e < n) r (entries rs) (g .0 .named) (entries-named n rs (g .1))
+
+-- ── arrays that hold a hall ──
+module _ (h : Hall) (costs codes starts costs′ codes′ starts′ : List ℕ) (a : Holds h costs codes starts costs′ codes′ starts′)
+    (lc : length (h .costs) ≤ length costs) (lk : length (entries (h .rules)) ≤ length codes) (ls : length (h .rules) < length starts) where
+  costs-front : costs′ ≡ h .costs ++ drop (length (h .costs)) costs
+  costs-front = a .costs-hold ∙ in-front (h .costs) costs lc
+
+  codes-front : drop 0 codes′ ≡ codesOf (entries (h .rules)) ++ drop (length (codesOf (entries (h .rules)))) codes
+  codes-front = a .codes-hold ∙ in-front (codesOf (entries (h .rules))) codes (omega (arith, codes-length (entries (h .rules))))
+
+  starts-front : drop 0 starts′ ≡ startsFrom 0 (h .rules) ++ drop (length (startsFrom 0 (h .rules))) starts
+  starts-front = a .starts-hold ∙ in-front (startsFrom 0 (h .rules)) starts (omega (arith, starts-length 0 (h .rules)))
+
+  -- the arrays read back as the hall
+  pub hall-back : hallOf (take (length (h .costs)) costs′) codes′ starts′ (length (h .rules)) ≡ h
+  hall-back = rw (costs-front, take-append-seam (h .costs) (drop (length (h .costs)) costs), rules-back codes′ starts′ 0 0 (h .rules) _ _ codes-front starts-front)
+
+  -- starts rise, every rule lies within the codes and is at most 32 wide, every code names a device
+  pub hall-laid : InRange h → length (entries (h .rules)) ≤ length codes′ → Laid (length (h .costs)) codes′ starts′ (length (h .rules))
+  hall-laid r within =
+      let n = length (h .costs) in
+      record {
+        rise = λ i l. laid i l .0;
+        narrow = λ i l. laid i l .1;
+        within = λ i l. let w = laid i l .2 in omega arith;
+        named = λ i l. codes-named n codes′ 0 (entries (h .rules)) _ (entries-named n (h .rules) (r .good)) codes-front i zero-le (last i l);
+      }
+    where
+      laid : (i : ℕ) → i < length (h .rules) → (getD starts′ i 0 ≤ getD starts′ (i + 1) 0) × (getD starts′ (i + 1) 0 ≤ getD starts′ i 0 + 32) × (getD starts′ (i + 1) 0 ≤ 0 + length (entries (h .rules)))
+      laid i l = starts-laid (length (h .costs)) starts′ 0 0 (h .rules) _ (r .good) starts-front i zero-le (omega arith)
+
+      last : (i : ℕ) → i < getD starts′ (length (h .rules)) 0 → i < 0 + length (entries (h .rules))
+      last i l =
+          let e : getD starts′ (length (h .rules)) 0 ≡ 0 + length (entries (h .rules)) = ap (λ (k : ℕ). getD starts′ k 0) (sym (zero-add (length (h .rules)))) ∙ starts-last starts′ 0 0 (h .rules) _ starts-front in
+          omega arith

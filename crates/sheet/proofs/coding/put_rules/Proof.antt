@@ -1,0 +1,169 @@
+use Prim.Native.Nat.{_-_}
+use native.Mathlib.Omega.{arith}
+use Rattle.sheet.proofs.Putting.{Putting, putting-start, putting-next, putting-more, putting-end}
+use borrow.Author.Needs.{needs}
+use Rattle.sheet.proofs.coding.put_rules.Statement.{statement}
+use Rattle.sheet.proofs.coding.put_rules.Tie as tie
+
+-- Invariant: the rules from r on stand from `place` on, and writing what is left of them leaves what writing all of them leaves
+-- (`Putting`); writing one rule moves on to the next (`putting-more`).
+abbrev Inv-loop : tie.InvT-loop
+Inv-loop words n m codes₀ starts₀ place₀ first₀ r₀ codes starts place first r = Putting n words m codes₀ starts₀ codes starts place first r
+
+-- Measure: the rules left.
+abbrev μ-loop : tie.MeasureT-loop
+μ-loop words n m codes₀ starts₀ place₀ first₀ r₀ codes starts place first r = m - r
+
+add-place : tie.Need-add-place Inv-loop μ-loop
+add-place c = let few = c .pre .devices in search needs
+
+loop-holds : tie.Need-loop-holds Inv-loop μ-loop
+loop-holds c = putting-start _ _ _ _ _ (c .pre)
+
+cast-starts : tie.Need-cast-starts Inv-loop μ-loop
+cast-starts c =
+    let l = c .before in
+    let p = l .loop .inv in
+    let near = p .near in
+    let s = p .stands in
+    let inside = s .inside in
+    let short = s .short in
+    search needs
+
+mul-starts : tie.Need-mul-starts Inv-loop μ-loop
+mul-starts c = search needs
+
+element-write-starts : tie.Need-element-write-starts Inv-loop μ-loop
+element-write-starts c = search needs
+
+value-at-requires : tie.Need-value-at-requires Inv-loop μ-loop
+value-at-requires c κs = search needs
+
+cast-width : tie.Need-cast-width Inv-loop μ-loop
+cast-width c = search needs
+
+add-put-entries : tie.Need-add-put-entries Inv-loop μ-loop
+add-put-entries c =
+    let t = c .before in
+    let l = t .before in
+    let p = l .loop .inv in
+    let x = putting-next p (t .loop-test .taken) in
+    let near = p .near in
+    let short = p .stands .short in
+    let narrow = x .narrow in
+    let room = x .room in
+    let w = c .value-at .ensures in
+    search needs
+
+cast-put-entries : tie.Need-cast-put-entries Inv-loop μ-loop
+cast-put-entries c = search needs
+
+put-entries-requires : tie.Need-put-entries-requires Inv-loop μ-loop
+put-entries-requires c κs =
+    let t = c .before .before in
+    let l = t .before in
+    let p = l .loop .inv in
+    let x = putting-next p (t .loop-test .taken) in
+    let near = p .near in
+    let short = p .stands .short in
+    let narrow = x .narrow in
+    let room = x .room in
+    let w = c .before .value-at .ensures in
+    let few = p .stands .devices in
+    record { devices = few; short = omega arith; room = omega arith }
+
+add-place-2 : tie.Need-add-place-2 Inv-loop μ-loop
+add-place-2 c =
+    let t = c .before .before .before in
+    let l = t .before in
+    let p = l .loop .inv in
+    let x = putting-next p (t .loop-test .taken) in
+    let near = p .near in
+    let short = p .stands .short in
+    let narrow = x .narrow in
+    let room = x .room in
+    let w = c .before .before .value-at .ensures in
+    search needs
+
+add-place-3 : tie.Need-add-place-3 Inv-loop μ-loop
+add-place-3 c =
+    let t = c .before .before .before in
+    let l = t .before in
+    let p = l .loop .inv in
+    let x = putting-next p (t .loop-test .taken) in
+    let near = p .near in
+    let short = p .stands .short in
+    let narrow = x .narrow in
+    let room = x .room in
+    let w = c .before .before .value-at .ensures in
+    search needs
+
+add-first : tie.Need-add-first Inv-loop μ-loop
+add-first c =
+    let t = c .before .before .before in
+    let l = t .before in
+    let p = l .loop .inv in
+    let x = putting-next p (t .loop-test .taken) in
+    let near = p .near in
+    let short = p .stands .short in
+    let narrow = x .narrow in
+    let room = x .room in
+    let w = c .before .before .value-at .ensures in
+    search needs
+
+add-r : tie.Need-add-r Inv-loop μ-loop
+add-r c = search needs
+
+loop-less : tie.Need-loop-less Inv-loop μ-loop
+loop-less c = search needs
+
+loop-again : tie.Need-loop-again Inv-loop μ-loop
+loop-again c =
+    let t = c .before .before .before in
+    putting-more (t .before .loop .inv) (t .loop-test .taken) _ _ (c .before .before .value-at .ensures) (c .put-entries .ensures)
+
+cast-starts-2 : tie.Need-cast-starts-2 Inv-loop μ-loop
+cast-starts-2 c =
+    let l = c .before in
+    let p = l .loop .inv in
+    let near = p .near in
+    let s = p .stands in
+    let inside = s .inside in
+    let short = s .short in
+    search needs
+
+mul-starts-2 : tie.Need-mul-starts-2 Inv-loop μ-loop
+mul-starts-2 c = search needs
+
+element-write-starts-2 : tie.Need-element-write-starts-2 Inv-loop μ-loop
+element-write-starts-2 c = search needs
+
+returns : tie.Need-returns Inv-loop μ-loop
+returns c = putting-end (c .before .loop .inv) (c .loop-test .left)
+
+pub put-rules-spec : {M : Type 1} → statement M
+put-rules-spec =
+    tie.close
+    (tie.spec
+    Inv-loop
+    μ-loop
+    add-place
+    loop-holds
+    cast-starts
+    mul-starts
+    element-write-starts
+    value-at-requires
+    cast-width
+    add-put-entries
+    cast-put-entries
+    put-entries-requires
+    add-place-2
+    add-place-3
+    add-first
+    add-r
+    loop-less
+    loop-again
+    cast-starts-2
+    mul-starts-2
+    element-write-starts-2
+    returns)

@@ -1,0 +1,37 @@
+use Rattle.sheet.proofs.Decoding.{read-refused, accepted-few, accepted-rules, read-hall}
+use borrow.Author.Needs.{needs}
+use Rattle.sheet.proofs.read.Statement.{statement}
+use Rattle.sheet.proofs.read.Tie as tie
+
+check-requires : tie.Need-check-requires
+check-requires c κs = search needs
+
+enum-known-kind : tie.Need-enum-known-kind
+enum-known-kind c = search needs
+
+enum-known-n : tie.Need-enum-known-n
+enum-known-n c = search needs
+
+put-costs-requires : tie.Need-put-costs-requires
+put-costs-requires c κs = search accepted-few
+
+put-rules-requires : tie.Need-put-rules-requires
+put-rules-requires c κs = search accepted-rules
+
+returns : tie.Need-returns
+returns c = search read-refused
+
+returns-2 : tie.Need-returns-2
+returns-2 c = search read-hall
+
+pub read-spec : {M : Type 1} → statement M
+read-spec =
+    tie.close
+    (tie.spec
+    check-requires
+    enum-known-kind
+    enum-known-n
+    put-costs-requires
+    put-rules-requires
+    returns
+    returns-2)

@@ -1,0 +1,5 @@
+pub mod Coded
+pub mod Word
+pub mod Check
+pub mod Placed
+pub mod Contract
