@@ -1,0 +1,11 @@
+// Runs damaged sheets and texts through the readers and prints each answer on a line. What it must print is worked out by
+// tests/damaged.py, from document 01.
+mod sheets;
+mod telling;
+
+fn main() {
+    sheets::prefixes();
+    sheets::replacements();
+    sheets::extras();
+    sheets::long_sheets();
+}

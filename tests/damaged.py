@@ -1,0 +1,76 @@
+#!/usr/bin/env python3
+"""What the program `damaged` must print, worked out from document 01 alone.
+
+    tests/damaged.py > crates/damaged/stdout
+
+Document 01, "The hall sheet", "The answer sheet of the search" and "Sheets typed as text". Nothing here is taken from the Rattle
+sources or from a run of them.
+"""
+
+FOUR = [4, 5, 2, 4, 3, 3, 2, 1, 2, 2, -2, 3, 2, -1, 4]
+
+
+class Refused(Exception):
+    pass
+
+
+def read_sheet(words, room):
+    """The numbers of devices and rules, or Refused(code, place)."""
+    if len(words) > 16384:
+        raise Refused(17, 16384)
+    place = 0
+
+    def word():
+        nonlocal place
+        if place == len(words):
+            raise Refused(11, len(words))
+        place += 1
+        return words[place - 1]
+
+    def number(code, most):
+        w = word()
+        if not 0 <= w <= most:
+            raise Refused(code, place - 1)
+        return w
+
+    n = number(12, 200)
+    for _ in range(n):
+        number(13, 1_000_000_000)
+    m = number(12, 2000)
+    for _ in range(m):
+        for _ in range(number(12, 32)):
+            if not 1 <= abs(word()) <= n:
+                raise Refused(14, place - 1)
+    if place < len(words):
+        raise Refused(15, place)
+    if room < n:
+        raise Refused(16, n)
+    return n, m
+
+
+def sheet(words, room=200):
+    try:
+        print("hall %d %d" % read_sheet(words, room))
+    except Refused as refused:
+        print("refused %d %d" % refused.args)
+
+
+for k in range(len(FOUR) + 1):
+    sheet(FOUR[:k])
+for i in range(len(FOUR)):
+    for w in (-2147483648, -1, 0, 33, 201, 2001, 1000000001, 2147483647):
+        sheet(FOUR[:i] + [w] + FOUR[i + 1:])
+
+many = FOUR + [0, -7, 2147483647, 5, 5]
+sheet(many[:16])
+sheet(many)
+sheet(many[:16], 3)
+sheet(many, 0)
+sheet(FOUR, 4)
+sheet(FOUR, 3)
+sheet([0, 1, 1, 1])
+
+full = [14] + [1] * 14 + [528] + ([30] + [p % 14 + 1 for p in range(30)]) * 528
+sheet(full)
+sheet(full + [30])
+sheet([-1] + full[1:] + [30])
