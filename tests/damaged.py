@@ -74,3 +74,62 @@ full = [14] + [1] * 14 + [528] + ([30] + [p % 14 + 1 for p in range(30)]) * 528
 sheet(full)
 sheet(full + [30])
 sheet([-1] + full[1:] + [30])
+
+
+def read_text(text, room):
+    """The tokens' values, or Refused(code, place)."""
+    if len(text) > 60000:
+        raise Refused(23, 60000)
+    words = []
+    at = 0
+    while at < len(text):
+        if text[at] in (9, 10, 13, 32):
+            at += 1
+            continue
+        first = at
+        minus = text[at] == ord("-")
+        if minus:
+            at += 1
+        digits = at
+        while at < len(text) and ord("0") <= text[at] <= ord("9"):
+            at += 1
+        if at == digits or at < len(text) and text[at] not in (9, 10, 13, 32):
+            raise Refused(21, at)
+        if at - digits > 10:
+            raise Refused(22, first)
+        value = int(text[digits:at]) * (-1 if minus else 1)
+        if not -2147483648 <= value <= 2147483647:
+            raise Refused(22, first)
+        if len(words) == room:
+            raise Refused(24, first)
+        words.append(value)
+    return words
+
+
+def text(text, room=2):
+    words = []
+    try:
+        words = read_text(text, room)
+        told = "words %d" % len(words)
+    except Refused as refused:
+        told = "refused %d %d" % refused.args
+    print(told + ", room" + "".join(" %d" % w for w in words + [7] * (room - len(words))))
+
+
+for t in (b"", b"   ", b"\t\n\r ", b"\t1\r2\t", b"\r1\t\t2\r", b"\n 1\n2 \n"):
+    text(t)
+for b in (0, 11, 12, 43, 128, 255):
+    text(bytes([b]))
+    text(bytes([52, b, 50]))
+for t in (b"-", b"4 -", b"--1", b"1-", b"1-1", b"- 1", b"-0", b"007", b"1234567890", b"0000000001", b"12345678901", b"00000000001",
+          b"2147483647", b"2147483648", b"-2147483648", b"-2147483649", b"4 -2147483649"):
+    text(t)
+for t in (b"", b"1", b"12345678901", b"12345678901x"):
+    text(t, 0)
+text(b"5 6")
+text(b"5 6 -8", 3)
+for t in (b"5 6 -8", b"5 6 x", b"5 6 12345678901", b"5 6 8 x", b"5 x 8"):
+    text(t)
+text(b"9" + b" " * 59999)
+text(b"9" + b" " * 60000)
+text(b"\0" + b" " * 60000)

@@ -2,21 +2,22 @@
 --
 -- In order: lengths; one element of a list, by what lies from its place on (`drop-head`); a code is its entry's (`code-entry`,
 -- `code-device`); rules read back (`rules-back`); starts and codes, place by place (`starts-laid`, `starts-last`, `codes-named`); arrays
--- that hold a hall (`hall-back`, `hall-laid`). Assumes nothing.
+-- that hold a hall (`hall-back`, `hall-end`, `hall-laid`). Assumes nothing.
 use mathlib.Core.Path.{_≡_, refl, sym, _∙_, ap}
 use mathlib.Core.List.{List, [], _∷_, _++_, append-assoc}
 use Prim.Native.Nat.{ℕ, zero, suc, _+_, _-_, _/_, _%_, _≤_, _<_, zero-le}
 use native.Mathlib.Nat.{zero-add}
 use native.Mathlib.Omega.{arith}
 use lib.ListN.{length, getD, take, drop, length-append}
+use lib.IntN.{ℤ, pos}
 use lib.Seq.{sets-eq, take-append-seam, drop-drop, drop-at}
 use Rattle.hall.specs.Hall.{Entry, at1, at0, device, Rule, Hall}
-use Rattle.hall.specs.Ranges.{Each, RuleInRange, InRange}
+use Rattle.hall.specs.Ranges.{Each, RuleInRange, InRange, wordsOf, numberWords, entryWords, ruleWords, words, SheetOf}
 use Rattle.hall.specs.Bound.{entries}
 use Rattle.hall.proofs.Each.{each-append}
 use Rattle.sheet.specs.Coded.{entryOf, entriesOf, rulesOf, hallOf, Laid, codeOf, codesOf, startsFrom}
 use Rattle.sheet.specs.Contract.{inFront, Holds}
-use Rattle.sheet.proofs.Standing.{codes-append}
+use Rattle.sheet.proofs.Standing.{entry-words-length, codes-append}
 
 -- ── lengths ──
 pub in-front : (numbers array : List ℕ) → length numbers ≤ length array → inFront numbers array ≡ numbers ++ drop (length numbers) array
@@ -126,6 +127,24 @@ unfolding entries
 entries-named n [] g = tt
 entries-named n (r ∷ rs) g = each-append (λ e. device e < n) r (entries rs) (g .0 .named) (entries-named n rs (g .1))
 
+-- there are no more entries than words
+rule-entries : (rs : List Rule) → length (entries rs) ≤ length (wordsOf ruleWords rs)
+unfolding entries wordsOf ruleWords
+rule-entries [] = zero-le
+rule-entries (r ∷ rs) = omega (
+  arith,
+  length-append r (entries rs),
+  length-append (wordsOf entryWords r) (wordsOf ruleWords rs),
+  entry-words-length r,
+  rule-entries rs,
+)
+
+pub few-entries : {h : Hall} {ws : List ℤ} {room : ℕ} → SheetOf h ws room → length (entries (h .rules)) ≤ 16384
+unfolding words
+few-entries {h} {ws} s =
+    let short = s .short in
+    omega (arith, ap length (s .sheet), length-append (wordsOf numberWords (h .costs)) (pos (length (h .rules)) ∷ wordsOf ruleWords (h .rules)), rule-entries (h .rules))
+
 -- ── arrays that hold a hall ──
 module _ (h : Hall) (costs codes starts costs′ codes′ starts′ : List ℕ) (a : Holds h costs codes starts costs′ codes′ starts′)
     (lc : length (h .costs) ≤ length costs) (lk : length (entries (h .rules)) ≤ length codes) (ls : length (h .rules) < length starts) where
@@ -142,6 +161,12 @@ module _ (h : Hall) (costs codes starts costs′ codes′ starts′ : List ℕ) 
   pub hall-back : hallOf (take (length (h .costs)) costs′) codes′ starts′ (length (h .rules)) ≡ h
   hall-back = rw (costs-front, take-append-seam (h .costs) (drop (length (h .costs)) costs), rules-back codes′ starts′ 0 0 (h .rules) _ _ codes-front starts-front)
 
+  -- the last start is the number of entries
+  pub hall-end : getD starts′ (length (h .rules)) 0 ≡ length (entries (h .rules))
+  hall-end =
+      let z : 0 + length (h .rules) ≡ length (h .rules) = zero-add (length (h .rules)) in
+      ap (λ (k : ℕ). getD starts′ k 0) (sym z) ∙ starts-last starts′ 0 0 (h .rules) _ starts-front ∙ zero-add (length (entries (h .rules)))
+
   -- starts rise, every rule lies within the codes and is at most 32 wide, every code names a device
   pub hall-laid : InRange h → length (entries (h .rules)) ≤ length codes′ → Laid (length (h .costs)) codes′ starts′ (length (h .rules))
   hall-laid r within =
@@ -157,6 +182,4 @@ module _ (h : Hall) (costs codes starts costs′ codes′ starts′ : List ℕ) 
       laid i l = starts-laid (length (h .costs)) starts′ 0 0 (h .rules) _ (r .good) starts-front i zero-le (omega arith)
 
       last : (i : ℕ) → i < getD starts′ (length (h .rules)) 0 → i < 0 + length (entries (h .rules))
-      last i l =
-          let e : getD starts′ (length (h .rules)) 0 ≡ 0 + length (entries (h .rules)) = ap (λ (k : ℕ). getD starts′ k 0) (sym (zero-add (length (h .rules)))) ∙ starts-last starts′ 0 0 (h .rules) _ starts-front in
-          omega arith
+      last i l = omega (arith, hall-end)

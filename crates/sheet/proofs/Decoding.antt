@@ -26,7 +26,7 @@ use Rattle.sheet.specs.declared.Sheet.the-variants as sheet
 use Rattle.sheet.proofs.Standing.{costs-stand, codes-stand, starts-stand}
 
 -- ── the numbers of an answer ──
-fault-kind : (f : Fault) → faultOf (kindOf f) ≡ f
+pub fault-kind : (f : Fault) → faultOf (kindOf f) ≡ f
 fault-kind tooShort = refl
 fault-kind badCount = refl
 fault-kind badCost = refl

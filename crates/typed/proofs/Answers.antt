@@ -1,0 +1,112 @@
+-- The answer of `read`: what the two passes come to, and that the contract allows one answer and one room only.
+--
+-- In order: a text that is not too long is read token by token (`within`), one that is too long is not (`too-long`); an answer that
+-- was scanned (`scanned-words`, `scanned-refused`), and its contract (`answers`); the numbers tell the kinds, the answers and the
+-- readings apart (`code-injective`, `numbers-injective`, `told-injective`); two results that the contract allows are equal
+-- (`reads-once`). Assumes nothing.
+use mathlib.Core.Path.{_≡_, refl, sym, _∙_, ap}
+use mathlib.Core.Bool.{cond}
+use mathlib.Core.List.{List, _++_}
+use Prim.Native.Nat.{ℕ, _≤_, _<_}
+use native.Mathlib.Omega.{arith}
+use lib.ListN.{length, take, drop}
+use lib.Seq.{take-append-seam}
+use lib.IntN.{ℤ}
+use lib.Dec.{eqb}
+use borrow.Author.Tests.{lt-ltb, le-ltb}
+use Rattle.typed.specs.Text.{codeOf, Read, refused, got, tokens, wordsOf, readText}
+use Rattle.typed.specs.Answer.{answered, numbers, roomAfter, Reads}
+use Rattle.typed.specs.Steps.{Taken}
+use Rattle.typed.specs.declared.Mistake.{Mistake}
+use Rattle.typed.specs.declared.Mistake.the-variants.{WrongByte, BadNumber, TooLong, NoRoom}
+use Rattle.typed.specs.declared.Reading.{Reading}
+use Rattle.typed.specs.declared.Reading.the-variants.{Words, Refused}
+
+-- ── the two passes ──
+pub within : (text : List ℕ) (room : ℕ) → length text ≤ 60000 → wordsOf room (tokens text) ≡ readText text room
+unfolding readText
+within text room h = rw (le-ltb 60000 (length text) h)
+
+pub beyond : (text : List ℕ) (room : ℕ) → 60000 < length text → refused TooLong 60000 ≡ readText text room
+unfolding readText
+beyond text room h = rw (lt-ltb 60000 (length text) h)
+
+pub too-long : {text : List ℕ} {before : List ℤ} → 60000 < length text → Reads text before (Refused TooLong 60000) before
+too-long {text} {before} h =
+    let e = beyond text (length before) h in
+    record { says = ap (λ (x : Read (List ℤ)). numbers (answered x)) e; room = ap (λ (x : Read (List ℤ)). roomAfter x before) e }
+
+-- where the answer is a number of words, they were read; where it is a refusal, the room is as it was
+taken : (x : Read (List ℤ)) {w : ℕ} → Words w ≡ answered x → (words : List ℤ) × (x ≡ got words)
+taken (refused m place) e = absurd (let z : _≡_ {A = ℕ} 0 1 = cc in omega arith)
+taken (got words) e = (words, refl)
+
+kept : (x : Read (List ℤ)) {m : Mistake} {place : ℕ} (before : List ℤ) → Refused m place ≡ answered x → before ≡ roomAfter x before
+kept (refused m place) before e = refl
+kept (got words) before e = absurd (let z : _≡_ {A = ℕ} 0 1 = cc in omega arith)
+
+module _ {text : List ℕ} (h : length text ≤ 60000) where
+  pub scanned-words : {room : ℕ} {r : Reading} {w : ℕ} → r ≡ answered (wordsOf room (tokens text)) → r ≡ Words w → Taken text room
+  scanned-words {room} q e = let t = taken (wordsOf room (tokens text)) (sym e ∙ q) in record { short = h; words = t .0; read = t .1 }
+
+  pub answers : {before after : List ℤ} {r s : Reading} → r ≡ answered (wordsOf (length before) (tokens text)) → r ≡ s
+      → after ≡ roomAfter (wordsOf (length before) (tokens text)) before → Reads text before s after
+  answers {before} q e room =
+      let i = within text (length before) h in
+      record {
+        says = ap numbers (sym e ∙ q ∙ ap answered i);
+        room = room ∙ ap (λ (x : Read (List ℤ)). roomAfter x before) i;
+      }
+
+  pub scanned-refused : {before : List ℤ} {r : Reading} {m : Mistake} {place : ℕ}
+      → r ≡ answered (wordsOf (length before) (tokens text)) → r ≡ Refused m place
+      → Reads text before (Refused m place) before
+  scanned-refused {before} q e = answers q e (kept (wordsOf (length before) (tokens text)) before (sym e ∙ q))
+
+-- ── one answer, one room ──
+abbrev kindOf : ℕ → Mistake
+kindOf n = cond (eqb n 21) WrongByte (cond (eqb n 22) BadNumber (cond (eqb n 23) TooLong NoRoom))
+
+kind-of-code : (m : Mistake) → kindOf (codeOf m) ≡ m
+kind-of-code WrongByte = refl
+kind-of-code BadNumber = refl
+kind-of-code TooLong = refl
+kind-of-code NoRoom = refl
+
+pub code-injective : (m n : Mistake) → codeOf m ≡ codeOf n → m ≡ n
+code-injective m n e = sym (kind-of-code m) ∙ ap kindOf e ∙ kind-of-code n
+
+code-some : (m : Mistake) → 0 < codeOf m
+code-some WrongByte = omega arith
+code-some BadNumber = omega arith
+code-some TooLong = omega arith
+code-some NoRoom = omega arith
+
+pub numbers-injective : (r s : Reading) → numbers r ≡ numbers s → r ≡ s
+numbers-injective (Words w) (Words v) e = let z : w ≡ v = cc in ap Words z
+numbers-injective (Words w) (Refused m place) e = absurd (let z : 0 ≡ codeOf m = cc in omega (arith, code-some m))
+numbers-injective (Refused m place) (Words w) e = absurd (let z : 0 ≡ codeOf m = cc in omega (arith, code-some m))
+numbers-injective (Refused m i) (Refused n j) e =
+    let c : codeOf m ≡ codeOf n = cc in
+    let p : i ≡ j = cc in
+    let k = code-injective m n c in
+    cc
+
+pub told-injective : (before : List ℤ) (x y : Read (List ℤ)) → numbers (answered x) ≡ numbers (answered y)
+    → roomAfter x before ≡ roomAfter y before → x ≡ y
+told-injective before x y e f = go x y (numbers-injective (answered x) (answered y) e) f
+  where
+    go : (x y : Read (List ℤ)) → answered x ≡ answered y → roomAfter x before ≡ roomAfter y before → x ≡ y
+    go (refused m i) (refused n j) e f = let a : m ≡ n = cc in let b : i ≡ j = cc in cc
+    go (refused m i) (got ws) e f = absurd (let z : _≡_ {A = ℕ} 0 1 = cc in omega arith)
+    go (got ws) (refused m i) e f = absurd (let z : _≡_ {A = ℕ} 0 1 = cc in omega arith)
+    go (got ws) (got vs) e f =
+        let n : length ws ≡ length vs = cc in
+        ap got
+        (sym (take-append-seam ws (drop (length ws) before))
+        ∙ ap (take (length ws)) f
+        ∙ ap (λ (k : ℕ). take k (vs ++ drop (length vs) before)) n
+        ∙ take-append-seam vs (drop (length vs) before))
+
+pub reads-once : {text : List ℕ} {before : List ℤ} {r s : Reading} {a b : List ℤ} → Reads text before r a → Reads text before s b → (r ≡ s) × (a ≡ b)
+reads-once {r = r} {s = s} x y = (numbers-injective r s (x .says ∙ sym (y .says)), x .room ∙ sym (y .room))

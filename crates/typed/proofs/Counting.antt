@@ -1,0 +1,85 @@
+-- The first pass over a text: what is left of it, with the words counted, answers what the whole answers.
+--
+-- In order: the answer with some words counted (`counted`); what the loop knows (`Counting`), at its start (`counting-start`), at
+-- each of its ends (`counting-end`, `counting-bad`, `counting-full`) and with one word more (`counting-more`). Assumes nothing.
+use mathlib.Core.Path.{_≡_, refl, sym, _∙_, ap, subst}
+use mathlib.Core.List.{List, _∷_}
+use Prim.Native.Nat.{ℕ, _+_, _-_, _≤_, _<_}
+use native.Mathlib.Omega.{arith}
+use lib.ListN.{length}
+use lib.IntN.{ℤ}
+use Rattle.typed.specs.Text.{Read, refused, got, then, tokens, wordsOf}
+use Rattle.typed.specs.Answer.{answered}
+use Rattle.typed.specs.Steps.{tokensAt, FoundWord, FoundMistake, NextIs}
+use Rattle.typed.specs.declared.Mistake.{Mistake}
+use Rattle.typed.specs.declared.Mistake.the-variants.{NoRoom}
+use Rattle.typed.specs.declared.Reading.{Reading}
+use Rattle.typed.specs.declared.Reading.the-variants.{Words, Refused}
+use Rattle.typed.specs.declared.words.Next.{Next}
+use Rattle.typed.specs.declared.words.Next.the-variants.{End, Found, Bad}
+use Rattle.typed.proofs.Taking.{none-left, got-one, no-room, one-bad}
+
+-- the answer to what is left, where so many words were counted before it
+abbrev counted : ℕ → Read (List ℤ) → Reading
+counted n (refused m place) = Refused m place
+counted n (got words) = Words (n + length words)
+
+counted-one : (n : ℕ) (z : ℤ) (r : Read (List ℤ)) → counted n (then r λ zs. got (z ∷ zs)) ≡ counted (n + 1) r
+counted-one n z (refused m place) = refl
+counted-one n z (got words) = ap Words (omega arith)
+
+counted-none : (r : Read (List ℤ)) → counted 0 r ≡ answered r
+counted-none (refused m place) = refl
+counted-none (got words) = ap Words (omega arith)
+
+pub record Counting (text : List ℕ) (room i n : ℕ) : Type 0 where
+  pub inside : i ≤ length text
+  pub holds : n ≤ room
+  pub answer : counted n (wordsOf (room - n) (tokensAt text i)) ≡ answered (wordsOf room (tokens text))
+
+pub counting-start : (text : List ℕ) (room : ℕ) → Counting text room 0 0
+counting-start text room = record {
+  inside = omega arith;
+  holds = omega arith;
+  answer = counted-none (wordsOf (room - 0) (tokens text)) ∙ ap (λ (k : ℕ). answered (wordsOf k (tokens text))) (omega arith);
+}
+
+module _ {text : List ℕ} {room i n : ℕ} (c : Counting text room i n) where
+  ends-by : {x : Read (List ℤ)} → wordsOf (room - n) (tokensAt text i) ≡ x → counted n x ≡ answered (wordsOf room (tokens text))
+  ends-by e = sym (ap (counted n) e) ∙ c .answer
+
+module _ {text : List ℕ} {room i n : ℕ} (c : Counting text room i n) {r : Next} (h : NextIs text i r) where
+  pub counting-end : r ≡ End → Words n ≡ answered (wordsOf room (tokens text))
+  counting-end e = ap Words (omega arith) ∙ ends-by c (ap (wordsOf (room - n)) (subst (NextIs text i) e h) ∙ none-left (room - n))
+
+  pub counting-bad : {m : Mistake} {place : ℕ} → r ≡ Bad m place → Refused m place ≡ answered (wordsOf room (tokens text))
+  counting-bad {m} {place} e =
+      let f : FoundMistake text i m place = subst (NextIs text i) e h in
+      ends-by c (ap (wordsOf (room - n)) (f .first) ∙ one-bad (room - n) (f .token) (f .rest) m place (f .says))
+
+  module _ {z : ℤ} {start end : ℕ} (e : r ≡ Found z start end) where
+    pub counting-word : FoundWord text i z start end
+    counting-word = subst (NextIs text i) e h
+
+    pub counting-full : room ≤ n → Refused NoRoom start ≡ answered (wordsOf room (tokens text))
+    counting-full l =
+        let f = counting-word in
+        let k : room - n ≡ 0 = omega arith in
+        ap (Refused NoRoom) (sym (f .place))
+        ∙ ends-by c
+        (ap (wordsOf (room - n)) (f .first)
+        ∙ ap (λ (k : ℕ). wordsOf k (f .token ∷ tokensAt text end)) k
+        ∙ no-room (f .token) (tokensAt text end) z (f .says))
+
+    pub counting-more : n < room → Counting text room end (n + 1)
+    counting-more l =
+        let f = counting-word in
+        let k : room - (n + 1) ≡ room - n - 1 = omega arith in
+        record {
+          inside = f .inside;
+          holds = omega arith;
+          answer =
+              ap (λ (k : ℕ). counted (n + 1) (wordsOf k (tokensAt text end))) k
+              ∙ sym (counted-one n z (wordsOf (room - n - 1) (tokensAt text end)))
+              ∙ ends-by c (ap (wordsOf (room - n)) (f .first) ∙ got-one (f .token) (tokensAt text end) z (f .says) (room - n) (omega arith));
+        }
