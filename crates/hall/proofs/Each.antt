@@ -1,9 +1,7 @@
--- Laws of `Each`: of a list after another (`each-append`), of a repeated element (`each-replicate`), at a place (`each-at`).
--- Assumes nothing.
+-- Laws of `Each`: of a list after another (`each-append`), of a repeated element (`each-replicate`). Assumes nothing.
 use mathlib.Core.List.{List, [], _∷_, _++_}
-use Prim.Native.Nat.{ℕ, zero, suc, _<_}
-use native.Mathlib.Omega.{arith}
-use lib.ListN.{length, getD, replicate}
+use Prim.Native.Nat.{ℕ, zero, suc}
+use lib.ListN.{replicate}
 use Rattle.hall.specs.Ranges.{Each}
 
 module _ {A : Type 0} (P : A → Type 0) where
@@ -14,8 +12,3 @@ module _ {A : Type 0} (P : A → Type 0) where
   pub each-replicate : (n : ℕ) (a : A) → P a → Each P (replicate n a)
   each-replicate zero a p = tt
   each-replicate (suc n) a p = (p, each-replicate n a p)
-
-  pub each-at : (l : List A) (i : ℕ) (d : A) → Each P l → i < length l → P (getD l i d)
-  each-at [] i d a h = absurd (omega arith)
-  each-at (x ∷ l) zero d a h = a .0
-  each-at (x ∷ l) (suc i) d a h = each-at l i d (a .1) (omega arith)

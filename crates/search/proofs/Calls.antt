@@ -1,0 +1,154 @@
+-- From what the sheet's reader and the search of a coded hall give to the contract of `least_plan`.
+--
+-- In order: a refused sheet (`call-refused`); an accepted sheet: its hall and how long it is (`ReadHall`, `read-hall`), that it can be searched
+-- (`call-few`, `call-solvable`), and what is found (`call-found`). Assumes nothing.
+use mathlib.Core.Path.{_≡_, refl, sym, _∙_, ap, subst}
+use mathlib.Core.List.{List, [], _∷_}
+use Prim.Native.Nat.{ℕ, _-_, _≤_, _<_}
+use native.Mathlib.Nat.{sub-zero}
+use native.Mathlib.Omega.{arith}
+use lib.ListN.{length, getD, take, replicate, length-replicate}
+use lib.Seq.{length-sets}
+use lib.IntN.{ℤ}
+use Rattle.hall.specs.Hall.{Hall}
+use Rattle.hall.specs.Walk.{walkHall}
+use Rattle.hall.specs.Ranges.{SheetOf}
+use Rattle.hall.specs.Bound.{entries}
+use Rattle.hall.specs.Reading.{Read, bad, got, decode}
+use Rattle.hall.specs.Answer.{within, answerRead, answer, numbers, roomAfter}
+use Rattle.hall.proofs.Reasons.{decoded}
+use Rattle.sheet.specs.Coded.{hallOf, Laid, codesOf}
+use Rattle.sheet.specs.Contract as sheet-says
+use Rattle.sheet.specs.Contract.{codeOfKind, numbersRead, Holds, ArraysAfter, Decodes}
+use Rattle.sheet.specs.declared.Refusal.{Refusal}
+use Rattle.sheet.specs.declared.Sheet.{Sheet}
+use Rattle.sheet.specs.declared.Sheet.the-variants as sheet
+use Rattle.sheet.proofs.Coded.{few-entries, hall-back, hall-end, hall-laid}
+use Rattle.search.specs.Solve as found
+use Rattle.search.specs.Solve.{Solvable, Gives}
+use Rattle.search.specs.Contract.{numbersOf, Finds}
+use Rattle.search.specs.declared.Answer.{Answer}
+use Rattle.search.specs.declared.Answer.the-variants.{Least, None, Spent, Refused}
+use Rattle.search.specs.declared.solve.Found.{Found}
+use Rattle.search.specs.declared.solve.Found.the-variants as found-is
+use Rattle.search.proofs.Finds.{finds}
+
+-- ── a refused sheet ──
+module _ (ws : List ℤ) (costs codes starts costs′ codes′ starts′ : List ℕ) (before : List ℕ) (s : Sheet) (d : Decodes ws (length before) costs codes starts s costs′ codes′ starts′) where
+  pub call-refused : (budget : ℕ) (kind : Refusal) (place : ℕ) → s ≡ sheet.Refused kind place → Finds ws budget before (Refused kind place) before
+  unfolding answer
+  call-refused budget kind place e = go (decode (length before) ws) refl (sym (ap sheet-says.numbersOf e) ∙ d .says)
+    where
+      go : (x : Read Hall) → decode (length before) ws ≡ x → codeOfKind kind ∷ place ∷ [] ≡ numbersRead x → Finds ws budget before (Refused kind place) before
+      go (bad f i) u q = let a : answer ws budget (length before) ≡ answerRead budget (bad f i) = ap (answerRead budget) u in
+          finds ws budget before (Refused kind place) (q ∙ sym (ap numbers a)) before (sym (ap (λ x. roomAfter x before) a))
+      go (got h j) u q = absurd (let z : _≡_ {A = ℕ} 0 1 = cc in omega arith)
+
+  -- ── an accepted sheet ──
+  record ReadHall (n m : ℕ) : Type 0 where
+    whole : Hall
+    place : ℕ
+    is : decode (length before) ws ≡ got whole place
+    devices : length (whole .costs) ≡ n
+    count : length (whole .rules) ≡ m
+    sheet-of : SheetOf whole ws (length before)
+    holds : Holds whole costs codes starts costs′ codes′ starts′
+
+  read-hall : (n m : ℕ) → s ≡ sheet.Hall n m → ReadHall n m
+  read-hall n m e = go (decode (length before) ws) refl (sym (ap sheet-says.numbersOf e) ∙ d .says) (d .arrays)
+    where
+      go : (x : Read Hall) → decode (length before) ws ≡ x → 0 ∷ n ∷ m ∷ [] ≡ numbersRead x → ArraysAfter x costs codes starts costs′ codes′ starts′ → ReadHall n m
+      go (bad f i) u q a = absurd (let z : _≡_ {A = ℕ} 0 1 = cc in omega arith)
+      go (got h j) u q a = record { whole = h; place = j; is = u; devices = cc; count = cc; sheet-of = decoded ws (length before) h j u; holds = a }
+
+module _ (ws : List ℤ) (costs codes starts costs′ codes′ starts′ : List ℕ) (before : List ℕ) (s : Sheet) (d : Decodes ws (length before) costs codes starts s costs′ codes′ starts′)
+    (n m : ℕ) (e : s ≡ sheet.Hall n m) (ec : costs ≡ replicate 200 0) (ek : codes ≡ replicate 16384 0) (es : starts ≡ replicate 2001 0) where
+  hall-read : ReadHall ws costs codes starts costs′ codes′ starts′ before s d n m
+  hall-read = read-hall ws costs codes starts costs′ codes′ starts′ before s d n m e
+
+  h : Hall
+  h = hall-read .whole
+
+  costs-length : length costs ≡ 200
+  costs-length = ap length ec ∙ length-replicate {A = ℕ} 200 0
+
+  codes-length : length codes ≡ 16384
+  codes-length = ap length ek ∙ length-replicate {A = ℕ} 16384 0
+
+  starts-length : length starts ≡ 2001
+  starts-length = ap length es ∙ length-replicate {A = ℕ} 2001 0
+
+  few : length (h .costs) ≤ length costs
+  unfolding h
+  few = let a = hall-read .sheet-of .ranges .devices in omega (arith, costs-length)
+
+  entries-few : length (entries (h .rules)) ≤ length codes
+  unfolding h
+  entries-few = omega (arith, few-entries (hall-read .sheet-of), codes-length)
+
+  rules-few : length (h .rules) < length starts
+  unfolding h
+  rules-few = let a = hall-read .sheet-of .ranges .count in omega (arith, starts-length)
+
+  -- the arrays read back as the sheet's hall
+  back : hallOf (take n costs′) codes′ starts′ m ≡ h
+  unfolding h
+  back =
+      subst (λ (k : ℕ). hallOf (take k costs′) codes′ starts′ m ≡ hall-read .whole) (hall-read .devices)
+      (subst (λ (k : ℕ). hallOf (take (length (hall-read .whole .costs)) costs′) codes′ starts′ k ≡ hall-read .whole) (hall-read .count)
+      (hall-back (hall-read .whole) costs codes starts costs′ codes′ starts′ (hall-read .holds) few entries-few rules-few))
+
+  front : take n costs′ ≡ h .costs
+  front = ap (λ (g : Hall). g .costs) back
+
+  pub call-few : n ≤ length costs′
+  unfolding h
+  call-few =
+      let a = hall-read .devices in
+      let b = hall-read .sheet-of .ranges .devices in
+      omega (arith, ap length (hall-read .holds .costs-hold) ∙ length-sets costs 0 (hall-read .whole .costs), costs-length)
+
+  solvable : Solvable (take n costs′) codes′ starts′ m before
+  unfolding h
+  solvable =
+      let g = hall-read in
+      let same = ap length front in
+      let a = g .devices in
+      let b = g .count in
+      let ranges = g .sheet-of .ranges in
+      let devices = ranges .devices in
+      let count = ranges .count in
+      let fits = g .sheet-of .fits in
+      let room : length codes′ ≡ length codes = ap length (g .holds .codes-hold) ∙ length-sets codes 0 (codesOf (entries (g .whole .rules))) in
+      let laid = hall-laid (g .whole) costs codes starts costs′ codes′ starts′ (g .holds) few entries-few rules-few ranges (omega (arith, entries-few)) in
+      let end = hall-end (g .whole) costs codes starts costs′ codes′ starts′ (g .holds) few entries-few rules-few in
+      record {
+        loaded = record {
+          laid = subst (λ (k : ℕ). Laid (length (take n costs′)) codes′ starts′ k) b (subst (λ (k : ℕ). Laid k codes′ starts′ (length (g .whole .rules))) (sym same) laid);
+          short = subst (λ (k : ℕ). getD starts′ k 0 ≤ 16384) b (omega (arith, end, few-entries (g .sheet-of)));
+          devices = omega arith;
+          cheap = rw front (ranges .cheap);
+          count = omega arith;
+        };
+        fits = omega arith;
+      }
+
+  -- the costs are lent as the part from 0 to n
+  pub call-solvable : Solvable (take (n - 0) costs′) codes′ starts′ m before
+  call-solvable = rw (sub-zero n) solvable
+
+  call-found : (budget : ℕ) (f : Found) (after : List ℕ) → Gives (hallOf (take (n - 0) costs′) codes′ starts′ m) budget f before after → (r : Answer) → numbersOf r ≡ found.numbersOf f → Finds ws budget before r after
+  unfolding answer h
+  call-found budget f after g r q =
+      let a : answer ws budget (length before) ≡ within h budget (walkHall h) = ap (answerRead budget) (hall-read .is) in
+      let b = subst (λ (x : Hall). Gives x budget f before after) (ap (λ (k : ℕ). hallOf (take k costs′) codes′ starts′ m) (sub-zero n) ∙ back) g in
+      finds ws budget before r (q ∙ b .says ∙ sym (ap numbers a)) after (b .room ∙ sym (ap (λ x. roomAfter x before) a))
+
+  pub call-least : (budget : ℕ) (f : Found) (after : List ℕ) → Gives (hallOf (take (n - 0) costs′) codes′ starts′ m) budget f before after → (cost held opened : ℕ) → f ≡ found-is.Least cost held opened → Finds ws budget before (Least cost held opened) after
+  call-least budget f after g cost held opened u = call-found budget f after g (Least cost held opened) (sym (ap found.numbersOf u))
+
+  pub call-none : (budget : ℕ) (f : Found) (after : List ℕ) → Gives (hallOf (take (n - 0) costs′) codes′ starts′ m) budget f before after → (opened : ℕ) → f ≡ found-is.Nothing opened → Finds ws budget before (None opened) after
+  call-none budget f after g opened u = call-found budget f after g (None opened) (sym (ap found.numbersOf u))
+
+  pub call-spent : (budget : ℕ) (f : Found) (after : List ℕ) → Gives (hallOf (take (n - 0) costs′) codes′ starts′ m) budget f before after → (opened : ℕ) → f ≡ found-is.Spent opened → Finds ws budget before (Spent opened) after
+  call-spent budget f after g opened u = call-found budget f after g (Spent opened) (sym (ap found.numbersOf u))

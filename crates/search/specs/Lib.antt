@@ -1,0 +1,10 @@
+-- What the contracts of the search say, to be read in this order.
+pub mod Plan
+pub mod Meter
+pub mod Rules
+pub mod Best
+pub mod Ends
+pub mod Node
+pub mod Walk
+pub mod Solve
+pub mod Contract

@@ -1,0 +1,61 @@
+// Finds the least restriction plan of a hall sheet: 01, "The walk" and "The answer sheet of the search".
+//
+// meter counts the nodes against the budget; rules finds the first rule that is not met; plan holds and releases devices; node
+// opens a node; walk goes from a node to its children; solve makes the rooms, walks from the first node and gives what it finds.
+ghost use mathlib.Core.Path.{_≡_};
+ghost use lib.ListN.{replicate};
+ghost use Rattle.search.specs.Contract.{Finds};
+
+mod meter;
+mod node;
+mod plan;
+mod rules;
+mod solve;
+mod walk;
+
+use sheet::Refusal;
+use sheet::Sheet;
+use solve::Found;
+
+// Cost, devices held and nodes opened; or nodes opened; or the kind of refusal and its place.
+pub enum Answer {
+    Least(u64, u32, u32),
+    None(u32),
+    Spent(u32),
+    Refused(Refusal, usize),
+}
+
+fn no_costs() -> [u32; 200]
+    ensures { λ r. ⌜ r ≡ replicate 200 0 ⌝ }
+{
+    [0u32; 200]
+}
+
+fn no_codes() -> [u16; 16384]
+    ensures { λ r. ⌜ r ≡ replicate 16384 0 ⌝ }
+{
+    [0u16; 16384]
+}
+
+fn no_starts() -> [u16; 2001]
+    ensures { λ r. ⌜ r ≡ replicate 2001 0 ⌝ }
+{
+    [0u16; 2001]
+}
+
+// The least plan of a sheet, under a budget of trial plans; its marks go to the front of the room.
+pub fn least_plan(words: &[i32], budget: u32, room: &mut [u8]) -> Answer
+    ensures { λ r. ⌜ Finds (now (words .entry)) budget (now (room .entry)) r (now (room .exit)) ⌝ }
+{
+    let mut costs = no_costs();
+    let mut codes = no_codes();
+    let mut starts = no_starts();
+    match sheet::read(words, room.len(), &mut costs, &mut codes, &mut starts) {
+        Sheet::Refused(kind, place) => Answer::Refused(kind, place),
+        Sheet::Hall(n, m) => match solve::solve(&costs[0..n], &codes, &starts, m, budget, room) {
+            Found::Least(cost, held, opened) => Answer::Least(cost, held, opened),
+            Found::Nothing(opened) => Answer::None(opened),
+            Found::Spent(opened) => Answer::Spent(opened),
+        },
+    }
+}

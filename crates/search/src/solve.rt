@@ -1,0 +1,97 @@
+// The walk of a coded hall from its first node, and what comes of it. 01, "The answer sheet of the search", codes 0, 1 and 2.
+//
+// The caller's room is written once, at the end, and only with a least plan.
+use crate::meter::Meter;
+use crate::node::BestSoFar;
+use crate::node::State;
+use crate::plan::copy_plan;
+use crate::walk::Went;
+use crate::walk::walk_plan;
+ghost use mathlib.Core.Path.{_≡_};
+ghost use lib.ListN.{replicate};
+ghost use Rattle.sheet.specs.Coded.{hallOf};
+ghost use Rattle.search.specs.Solve.{begun, Ready, Solvable, Gives};
+
+// What a walk under a budget comes to: cost, held number and count of the least plan; or the count alone.
+pub(crate) enum Found {
+    Least(u64, u32, u32),
+    Nothing(u32),
+    Spent(u32),
+}
+
+// Nothing counted, and no best so far.
+fn at_start(budget: u32) -> State
+    ensures { λ r. ⌜ r ≡ begun budget ⌝ }
+{
+    let meter = Meter { budget, count: 0 };
+    let best = BestSoFar {
+        found: false,
+        cost: 0,
+        held: 0,
+    };
+    State { meter, best }
+}
+
+// Walks in the rooms that it is lent.
+pub(crate) fn run(
+    costs: &[u32],
+    codes: &[u16; 16384],
+    starts: &[u16; 2001],
+    m: usize,
+    budget: u32,
+    plan: &mut [u8],
+    best: &mut [u8],
+    room: &mut [u8],
+) -> Found
+    requires { ⌜ Ready (now costs) (now codes) (now starts) m (now plan) (now best) (now room) ⌝ }
+    ensures { λ r. ⌜ Gives (hallOf (now (costs .entry)) (now (codes .entry)) (now (starts .entry)) m) budget r (now (room .entry)) (now (room .exit)) ⌝ }
+{
+    match walk_plan(costs, codes, starts, m, plan, best, at_start(budget), 0, 0) {
+        Went::Spent(end) => Found::Spent(end.count),
+        Went::On(last) => {
+            let numbers = last.best;
+            let meter = last.meter;
+            if numbers.found {
+                let n = best.len();
+                copy_plan(best, &mut room[0..n]);
+                Found::Least(numbers.cost, numbers.held, meter.count)
+            } else {
+                Found::Nothing(meter.count)
+            }
+        }
+    }
+}
+
+// Room for a plan of any hall.
+fn blank() -> [u8; 200]
+    ensures { λ r. ⌜ r ≡ replicate 200 0 ⌝ }
+{
+    [0u8; 200]
+}
+
+// The search of a hall that lies in the coded arrays, with rooms of its own for the plan and the best so far.
+pub(crate) fn solve(
+    costs: &[u32],
+    codes: &[u16; 16384],
+    starts: &[u16; 2001],
+    m: usize,
+    budget: u32,
+    room: &mut [u8],
+) -> Found
+    requires { ⌜ Solvable (now costs) (now codes) (now starts) m (now room) ⌝ }
+    ensures { λ r. ⌜ Gives (hallOf (now (costs .entry)) (now (codes .entry)) (now (starts .entry)) m) budget r (now (room .entry)) (now (room .exit)) ⌝ }
+{
+    let n = costs.len();
+    let mut plan = blank();
+    let mut best = blank();
+    run(
+        costs,
+        codes,
+        starts,
+        m,
+        budget,
+        &mut plan[0..n],
+        &mut best[0..n],
+        room,
+    )
+}
