@@ -40,7 +40,7 @@ Matches r (hall.none opened) = r ≡ None opened
 Matches r (hall.spent opened) = r ≡ Spent opened
 Matches r (hall.refused f place) = r ≡ Refused (kindOf f) place
 
-code-large : (f : Fault) → 11 ≤ codeOf f
+pub code-large : (f : Fault) → 11 ≤ codeOf f
 code-large tooShort = omega arith
 code-large badCount = omega arith
 code-large badCost = omega arith

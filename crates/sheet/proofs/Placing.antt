@@ -1,6 +1,6 @@
 -- Writing into the arrays: while something is left to write, writing it leaves what writing the whole leaves.
 --
--- In order: a run of values (`run-start`, `run-more`, `run-end`, `run-length`); one run behind another (`sets-append`); rules, their codes
+-- In order: a run of values (`run-more`, `run-end`, `run-length`); one run behind another (`sets-append`); rules, their codes
 -- and their starts (`codes-more`, `starts-more`, `starts-end`). Assumes nothing.
 use mathlib.Core.Path.{_≡_, refl, sym, _∙_, ap}
 use mathlib.Core.List.{List, [], _∷_, _++_}
@@ -35,7 +35,7 @@ module _ (f : ℕ → ℕ) (array : List ℕ) (k at left : ℕ) (whole : List �
   run-end e = rw e at inv
 
 -- ── one run behind another ──
-sets-append : (array : List ℕ) (k : ℕ) (a b : List ℕ) → sets array k (a ++ b) ≡ sets (sets array k a) (k + length a) b
+pub sets-append : (array : List ℕ) (k : ℕ) (a b : List ℕ) → sets array k (a ++ b) ≡ sets (sets array k a) (k + length a) b
 sets-append array k [] b = ap (λ (i : ℕ). sets array i b) (omega arith)
 sets-append array k (v ∷ a) b = sets-append (set array k v) (suc k) a b ∙ ap (λ (i : ℕ). sets (sets (set array k v) (suc k) a) i b) (omega arith)
 

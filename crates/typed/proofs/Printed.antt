@@ -73,7 +73,7 @@ digits-some (suc k) n = go (ltb n 10)
     go true = omega arith
     go false = omega (arith, length-append (digitsBy k (n / 10)) ((48 + n % 10) ∷ []))
 
-digits-few : (k n j : ℕ) → n < 10 ^ suc j → length (digitsBy k n) ≤ suc j
+pub digits-few : (k n j : ℕ) → n < 10 ^ suc j → length (digitsBy k n) ≤ suc j
 unfolding digitsBy
 digits-few zero n j h = omega arith
 digits-few (suc k) n j h = go (ltb n 10) refl j h (λ i. digits-few k (n / 10) i)

@@ -1,0 +1,2 @@
+-- What the proofs of `read_input` and `main` cite.
+pub mod Inputs

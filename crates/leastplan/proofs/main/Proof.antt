@@ -1,0 +1,81 @@
+use Rattle.leastplan.proofs.Inputs.{bytes-within, reply-within}
+use borrow.Author.Needs.{needs}
+use Rattle.leastplan.proofs.main.Statement.{statement}
+use Rattle.leastplan.proofs.main.Tie as tie
+
+no-bytes-requires : tie.Need-no-bytes-requires
+no-bytes-requires c κs = search needs
+
+slice-aggregate-read-input : tie.Need-slice-aggregate-read-input
+slice-aggregate-read-input c = search needs
+
+read-input-requires : tie.Need-read-input-requires
+read-input-requires c κs = search needs
+
+enum-told : tie.Need-enum-told
+enum-told c = search needs
+
+slice-aggregate-write-all : tie.Need-slice-aggregate-write-all
+slice-aggregate-write-all c = search needs
+
+write-all-requires : tie.Need-write-all-requires
+write-all-requires c κs = search needs
+
+enum-known-n : tie.Need-enum-known-n
+enum-known-n c = search needs
+
+no-lines-requires : tie.Need-no-lines-requires
+no-lines-requires c κs = search needs
+
+sub-answer : tie.Need-sub-answer
+sub-answer c = search needs
+
+part-answer-start : tie.Need-part-answer-start
+part-answer-start c = search needs
+
+part-answer-end : tie.Need-part-answer-end
+part-answer-end c = search bytes-within
+
+answer-requires : tie.Need-answer-requires
+answer-requires c κs = search needs
+
+sub-write-all : tie.Need-sub-write-all
+sub-write-all c = search needs
+
+part-write-all-start : tie.Need-part-write-all-start
+part-write-all-start c = search needs
+
+part-write-all-end : tie.Need-part-write-all-end
+part-write-all-end c = search reply-within
+
+write-all-requires-2 : tie.Need-write-all-requires-2
+write-all-requires-2 c κs = search needs
+
+returns : tie.Need-returns
+returns c = search needs
+
+returns-2 : tie.Need-returns-2
+returns-2 c = search needs
+
+pub main-spec : {M : Type 1} → statement M
+main-spec =
+    tie.close
+    (tie.spec
+    no-bytes-requires
+    slice-aggregate-read-input
+    read-input-requires
+    enum-told
+    slice-aggregate-write-all
+    write-all-requires
+    enum-known-n
+    no-lines-requires
+    sub-answer
+    part-answer-start
+    part-answer-end
+    answer-requires
+    sub-write-all
+    part-write-all-start
+    part-write-all-end
+    write-all-requires-2
+    returns
+    returns-2)

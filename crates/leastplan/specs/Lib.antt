@@ -1,0 +1,2 @@
+-- What the contract of `read_input` says.
+pub mod Input

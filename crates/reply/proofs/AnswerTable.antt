@@ -1,0 +1,35 @@
+-- The table of known texts, by computation from the text to the lines that are printed (`rows-right`); large numbers
+-- (`million-right`, `total-right`, `largest-right`), and the line of a budget that was spent (`spent-right`). Assumes nothing.
+use mathlib.Core.Path.{_≡_, refl, sym}
+use mathlib.Core.List.{[], _∷_, _++_, map}
+use lib.Dec.{lit≤, lit<}
+use Rattle.hall.specs.Hall.{holds, isFree, hold, meetsRule, meetsAll, firstUnmet}
+use Rattle.hall.specs.Order.{ifHeld, costOf, heldOf, heldFrom, less, rank, better}
+use Rattle.hall.specs.Walk.{keep, oneMore, closes, shut, still, after, entryBy, through, opening, nodeBy, node, walk, walkFrom, start, walkHall}
+use Rattle.hall.specs.Ranges.{wordsOf}
+use Rattle.hall.specs.Reading.{times, rule, hall, decodeBy, decode}
+use Rattle.hall.specs.Answer.{spent, answer}
+use Rattle.typed.specs.Text as text
+use Rattle.typed.specs.Printing.{digitsBy, digitsOf}
+use Rattle.reply.specs.Printed.{spentWord, spaced, printedAnswer, printedFor}
+use Rattle.reply.specs.Table.{Row, output, rows, million, total, largest}
+use Rattle.reply.proofs.Digits.{decimal-is}
+
+pub rows-right : map output rows ≡ map (λ (r : Row). r .printed) rows
+unfolding rows printedFor text.readText text.wordsOf text.numberOf text.decimal text.tokensFrom text.front answer decode decodeBy hall rule times walkHall walkFrom start walk node nodeBy opening through entryBy after still shut closes oneMore keep better rank less heldFrom heldOf costOf ifHeld firstUnmet meetsAll meetsRule hold isFree holds wordsOf spaced digitsBy
+rows-right = refl
+
+-- large numbers, by the law that a number's digits are the kit's
+pub million-right : digitsOf 1000000 ≡ million
+million-right = sym (decimal-is 1000000 7 (lit≤ tt, lit< tt, (λ l. lit≤ tt)))
+
+pub total-right : digitsOf 5000000000 ≡ total
+total-right = sym (decimal-is 5000000000 10 (lit≤ tt, lit< tt, (λ l. lit≤ tt)))
+
+pub largest-right : digitsOf 18446744073709551615 ≡ largest
+largest-right = sym (decimal-is 18446744073709551615 20 (lit≤ tt, lit< tt, (λ l. lit≤ tt)))
+
+-- "spent 1000000"
+pub spent-right : printedAnswer (spent 1000000) ≡ spentWord ++ ((32 ∷ million) ++ (10 ∷ []))
+unfolding spaced
+spent-right = rw million-right

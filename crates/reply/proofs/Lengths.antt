@@ -1,0 +1,93 @@
+-- Everything that is printed has room: the lines of none and spent (`none-fits`, `spent-fits`), of a refusal (`refused-fits`), of a least plan
+-- (`least-fits`), and the line of the held devices behind that (`hold-fits`): at most 49 and 897 bytes. Assumes nothing.
+use mathlib.Core.Path.{_≡_, refl}
+use mathlib.Core.List.{List, [], _∷_, _++_}
+use Prim.Native.Nat.{ℕ, zero, suc, _+_, _^_, _≤_, _<_}
+use native.Mathlib.Omega.{arith}
+use lib.ListN.{length, take, length-append, length-take}
+use Rattle.hall.specs.Order.{heldBy, heldFrom, heldEntries}
+use Rattle.hall.specs.Ranges.{wordsOf}
+use Rattle.typed.specs.Printing.{digitsBy, digitsOf}
+use Rattle.reply.specs.Printed.{leastWord, noneWord, spentWord, refusedWord, refusedLine, spaced, line, entriesOf, holdLine}
+use Rattle.reply.specs.Contract.{Fits, Puts}
+use Rattle.typed.proofs.Printed.{digits-few}
+
+-- ── lines of numbers: at most 10 digits in 32 bits, 20 in 64 ──
+short-32 : (n : ℕ) → n < 2 ^ 32 → length (digitsOf n) ≤ 10
+short-32 n h = digits-few n n 9 (omega arith)
+
+short-64 : (n : ℕ) → n < 2 ^ 64 → length (digitsOf n) ≤ 20
+short-64 n h = digits-few n n 19 (omega arith)
+
+one-more : (n : ℕ) (numbers : List ℕ) → length (spaced digitsOf (n ∷ numbers)) ≡ 1 + length (digitsOf n) + length (spaced digitsOf numbers)
+unfolding spaced
+one-more n numbers = omega (arith, length-append (digitsOf n) (spaced digitsOf numbers))
+
+line-size : (word numbers : List ℕ) → length (line word digitsOf numbers) ≡ length word + length (spaced digitsOf numbers) + 1
+line-size word numbers = omega (arith, length-append word (spaced digitsOf numbers ++ (10 ∷ [])), length-append (spaced digitsOf numbers) (10 ∷ []))
+
+no-more : length (spaced digitsOf []) ≡ 0
+unfolding spaced
+no-more = refl
+
+count-fits : (word : List ℕ) (opened : ℕ) → length word ≤ 7 → opened < 2 ^ 32 → Fits (line word digitsOf (opened ∷ [])) 0
+count-fits word opened w h = omega (arith, line-size word (opened ∷ []), one-more opened [], no-more, short-32 opened h)
+
+pub none-fits : (opened : ℕ) → opened < 2 ^ 32 → Fits (line noneWord digitsOf (opened ∷ [])) 0
+none-fits opened h = count-fits noneWord opened (omega arith) h
+
+pub spent-fits : (opened : ℕ) → opened < 2 ^ 32 → Fits (line spentWord digitsOf (opened ∷ [])) 0
+spent-fits opened h = count-fits spentWord opened (omega arith) h
+
+pub refused-fits : (code place : ℕ) → code < 2 ^ 32 → place < 2 ^ 64 → Fits (refusedLine code place) 0
+refused-fits code place x y =
+    omega (arith, line-size refusedWord (code ∷ place ∷ []), one-more code (place ∷ []), one-more place [], no-more, short-32 code x, short-64 place y)
+
+least-short : (cost held opened : ℕ) → cost < 2 ^ 64 → held < 2 ^ 32 → opened < 2 ^ 32 → length (line leastWord digitsOf (cost ∷ held ∷ opened ∷ [])) ≤ 49
+least-short cost held opened x y z =
+    omega (
+      arith,
+      line-size leastWord (cost ∷ held ∷ opened ∷ []),
+      one-more cost (held ∷ opened ∷ []),
+      one-more held (opened ∷ []),
+      one-more opened [],
+      no-more,
+      short-64 cost x,
+      short-32 held y,
+      short-32 opened z,
+    )
+
+pub least-fits : (cost held opened : ℕ) → cost < 2 ^ 64 → held < 2 ^ 32 → opened < 2 ^ 32 → Fits (line leastWord digitsOf (cost ∷ held ∷ opened ∷ [])) 0
+least-fits cost held opened x y z = omega (arith, least-short cost held opened x y z)
+
+-- ── the held devices ──
+-- room for a blank, a minus and the digits of each of so many devices from one on
+unfoldable roomFor : ℕ → ℕ → ℕ
+roomFor v zero = 0
+roomFor v (suc n) = 2 + length (digitsOf (suc v)) + roomFor (suc v) n
+
+devices-short : (v n : ℕ) (plan : List ℕ) → length plan ≤ n → length (entriesOf (heldFrom v plan)) ≤ roomFor v n
+unfolding roomFor heldFrom spaced wordsOf
+devices-short v n [] h = omega arith
+devices-short v zero (x ∷ plan) h = absurd (omega arith)
+devices-short v (suc n) (x ∷ plan) h = go x (devices-short (suc v) n plan (omega arith))
+  where
+    go : (x : ℕ) → length (entriesOf (heldFrom (suc v) plan)) ≤ roomFor (suc v) n
+        → length (entriesOf (heldBy x v (heldFrom (suc v) plan))) ≤ 2 + length (digitsOf (suc v)) + roomFor (suc v) n
+    go zero rest = omega arith
+    go (suc zero) rest = omega (arith, length-append (digitsOf (suc v)) (entriesOf (heldFrom (suc v) plan)))
+    go (suc (suc zero)) rest = omega (arith, length-append (digitsOf (suc v)) (entriesOf (heldFrom (suc v) plan)))
+    go (suc (suc (suc x))) rest = omega arith
+
+all-devices : roomFor 0 200 ≡ 892
+unfolding roomFor digitsBy
+all-devices = refl
+
+hold-short : (plan : List ℕ) → length (holdLine (take 200 plan)) ≤ 897
+hold-short plan =
+    let marks = take 200 plan in
+    omega (arith, length-append (entriesOf (heldEntries marks)) (10 ∷ []), devices-short 0 200 marks (omega (arith, length-take 200 plan)), all-devices)
+
+pub hold-fits : (cost held opened : ℕ) (plan before : List ℕ) (next : ℕ) (out : List ℕ) → cost < 2 ^ 64 → held < 2 ^ 32 → opened < 2 ^ 32
+    → Puts (line leastWord digitsOf (cost ∷ held ∷ opened ∷ [])) 0 before next out → Fits (holdLine (take 200 plan)) next
+hold-fits cost held opened plan before next out x y z p = omega (arith, p .ends, least-short cost held opened x y z, hold-short plan)

@@ -1,0 +1,106 @@
+-- Bytes put into a room: a copy, one run behind another, and items that are put one by one.
+--
+-- In order: a copy, byte by byte (`copy-start`, `copy-more`, `copy-end`); one run behind another (`puts-then`); a number behind what stands in front of it (`front-room`, `digits-room`, `number-puts`); a word, its items and the
+-- byte 10 (`word-room`, `items-room`, `close-room`, `line-puts`); items of which some are left (`Left`, `left-start`, `left-room`,
+-- `left-more`, `left-end`). Assumes nothing.
+use mathlib.Core.Path.{_≡_, refl, sym, _∙_, ap}
+use mathlib.Core.List.{List, [], _∷_, _++_}
+use Prim.Native.Nat.{ℕ, suc, _+_, _-_, _≤_, _<_}
+use native.Mathlib.Numerals.{add-one}
+use native.Mathlib.Nat.{add-zero, sub-zero}
+use native.Mathlib.Omega.{arith}
+use lib.ListN.{length, getD, take, drop, set, length-append, drop-of-length-le}
+use lib.Seq.{sets, drop-cons}
+use Rattle.io.specs.Digits.{digits, Fewest}
+use Rattle.typed.specs.Printing.{digitsOf}
+use Rattle.sheet.proofs.Placing.{sets-append}
+use Rattle.reply.specs.Contract.{Fits, Puts}
+use Rattle.reply.proofs.Digits.{decimal-is}
+
+-- ── a copy ──
+pub copy-start : (bytes out : List ℕ) (at : ℕ) → sets out (at + 0) bytes ≡ sets out at bytes
+copy-start bytes out at = rw add-zero
+
+pub copy-more : (bytes out whole : List ℕ) (at i : ℕ) → i < length bytes → sets out (at + i) (drop i bytes) ≡ whole
+    → sets (set out (at + i) (getD bytes i 0)) (at + (i + 1)) (drop (i + 1) bytes) ≡ whole
+copy-more bytes out whole at i h inv =
+    let s : at + (i + 1) ≡ suc (at + i) = omega arith in
+    rw (s, add-one) (sym (ap (sets out (at + i)) (drop-cons bytes i 0 h)) ∙ inv)
+
+pub copy-end : (bytes out whole : List ℕ) (at i : ℕ) → length bytes ≤ i → sets out (at + i) (drop i bytes) ≡ whole → out ≡ whole
+copy-end bytes out whole at i h inv = sym (ap (sets out (at + i)) (drop-of-length-le bytes h)) ∙ inv
+
+-- ── one run behind another ──
+-- so what is left to put may be put behind what was put
+put-before : (a b : List ℕ) (at : ℕ) (before : List ℕ) (next : ℕ) (out : List ℕ) → Puts a at before next out → sets out next b ≡ sets before at (a ++ b)
+put-before a b at before next out p =
+    ap (λ (o : List ℕ). sets o next b) (p .leaves) ∙ ap (λ (i : ℕ). sets (sets before at a) i b) (p .ends) ∙ sym (sets-append before at a b)
+
+pub puts-then : (a b : List ℕ) (at : ℕ) (before : List ℕ) (next : ℕ) (out : List ℕ) (r : ℕ) (after : List ℕ) → Puts a at before next out
+    → Puts b next out r after → Puts (a ++ b) at before r after
+puts-then a b at before next out r after p q = record {
+  ends = omega (arith, p .ends, q .ends, length-append a b);
+  leaves = q .leaves ∙ put-before a b at before next out p;
+  fits = q .fits;
+}
+
+-- ── a number, by the kit's digits, behind what stands in front of it ──
+module _ (front : List ℕ) (n at : ℕ) where
+  pub front-room : Fits (front ++ digitsOf n) at → Fits front at
+  front-room fits = omega (arith, length-append front (digitsOf n))
+
+  module _ (before : List ℕ) (next : ℕ) (out : List ℕ) (p : Puts front at before next out) (k : ℕ) (text : List ℕ) (few : Fewest 10 1 n k)
+      (spelled : take k text ≡ digits 10 k n) where
+    pub digits-room : Fits (front ++ digitsOf n) at → Fits (take (k - 0) text) next
+    digits-room fits = rw (sub-zero, spelled, decimal-is n k few) (omega (arith, length-append front (digitsOf n), p .ends))
+
+    pub number-puts : (r : ℕ) (after : List ℕ) → Puts (take (k - 0) text) next out r after → Puts (front ++ digitsOf n) at before r after
+    number-puts r after q = puts-then front (digitsOf n) at before next out r after p (rw (sub-zero, spelled, decimal-is n k few) at q)
+
+-- ── a word, its items and the byte 10 ──
+module _ (word items : List ℕ) (at : ℕ) (fits : Fits (word ++ (items ++ (10 ∷ []))) at) where
+  size : length (word ++ (items ++ (10 ∷ []))) ≡ length word + (length items + 1)
+  size = length-append word (items ++ (10 ∷ [])) ∙ ap (λ (n : ℕ). length word + n) (length-append items (10 ∷ []))
+
+  pub word-room : Fits word at
+  word-room = omega (arith, size)
+
+  module _ (before : List ℕ) (first : ℕ) (begun : List ℕ) (p : Puts word at before first begun) where
+    pub items-room : Fits items first
+    items-room = omega (arith, size, p .ends)
+
+    pub close-room : (next : ℕ) (out : List ℕ) → Puts items first begun next out → Fits (10 ∷ []) next
+    close-room next out q = omega (arith, size, p .ends, q .ends)
+
+pub line-puts : (word items : List ℕ) (at : ℕ) (before : List ℕ) (first : ℕ) (begun : List ℕ) (next : ℕ) (out : List ℕ) (r : ℕ) (after : List ℕ)
+    → Puts word at before first begun → Puts items first begun next out → Puts (10 ∷ []) next out r after
+    → Puts (word ++ (items ++ (10 ∷ []))) at before r after
+line-puts word items at before first begun next out r after p q s =
+    puts-then word (items ++ (10 ∷ [])) at before first begun r after p (puts-then items (10 ∷ []) first begun next out r after q s)
+
+-- ── items of which some are left ──
+-- `rest` is left to put of `whole`, which begins at `at`: put from `next` on, it leaves what the whole leaves
+pub record Left (rest whole : List ℕ) (at : ℕ) (before : List ℕ) (next : ℕ) (out : List ℕ) : Type 0 where
+  pub ends : next + length rest ≡ at + length whole
+  pub leaves : sets out next rest ≡ sets before at whole
+
+pub left-start : (whole : List ℕ) (at : ℕ) (before : List ℕ) → Left whole whole at before at before
+left-start whole at before = record { ends = refl; leaves = refl }
+
+module _ (rest whole : List ℕ) (at : ℕ) (before : List ℕ) (next : ℕ) (out : List ℕ) (left : Left rest whole at before next out) where
+  pub left-end : rest ≡ [] → Fits whole at → Puts whole at before next out
+  left-end e fits = record {
+    ends = omega (arith, ap length e, left .ends);
+    leaves = sym (ap (sets out next) e) ∙ left .leaves;
+    fits = omega (arith, ap length e, left .ends);
+  }
+
+  module _ (piece rest′ : List ℕ) (e : rest ≡ piece ++ rest′) where
+    pub left-room : Fits whole at → Fits piece next
+    left-room fits = omega (arith, left .ends, ap length e, length-append piece rest′)
+
+    pub left-more : (next′ : ℕ) (out′ : List ℕ) → Puts piece next out next′ out′ → Left rest′ whole at before next′ out′
+    left-more next′ out′ p = record {
+      ends = omega (arith, left .ends, ap length e, length-append piece rest′, p .ends);
+      leaves = put-before piece rest′ next out next′ out′ p ∙ sym (ap (sets out next) e) ∙ left .leaves;
+    }

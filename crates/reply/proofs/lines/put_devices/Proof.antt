@@ -1,0 +1,53 @@
+use Prim.Native.Nat.{_-_}
+use lib.ListN.{take, drop}
+use Rattle.hall.specs.Order.{heldFrom, heldEntries}
+use Rattle.reply.specs.Printed.{entriesOf}
+use Rattle.reply.proofs.Putting.{Left, left-start, left-more, left-end}
+use Rattle.reply.proofs.Items.{devices-more, devices-room, devices-end}
+use borrow.Author.Needs.{needs}
+use Rattle.reply.proofs.lines.put_devices.Statement.{statement}
+use Rattle.reply.proofs.lines.put_devices.Tie as tie
+
+-- Invariant: putting the devices that are left leaves what putting all of them leaves; putting one takes it off the rest (`left-more`).
+abbrev Inv-loop : tie.InvT-loop
+Inv-loop plan at out₀ next₀ device₀ out next device =
+    Left (entriesOf (heldFrom device (drop device (take 200 plan)))) (entriesOf (heldEntries (take 200 plan))) at out₀ next out
+
+-- Measure: the devices left.
+abbrev μ-loop : tie.MeasureT-loop
+μ-loop plan at out₀ next₀ device₀ out next device = 200 - device
+
+loop-holds : tie.Need-loop-holds Inv-loop μ-loop
+loop-holds c = search left-start
+
+element-copy-out-put-device : tie.Need-element-copy-out-put-device Inv-loop μ-loop
+element-copy-out-put-device c = search needs
+
+put-device-requires : tie.Need-put-device-requires Inv-loop μ-loop
+put-device-requires c κs = (search needs, search devices-room)
+
+add-device : tie.Need-add-device Inv-loop μ-loop
+add-device c = search needs
+
+loop-less : tie.Need-loop-less Inv-loop μ-loop
+loop-less c = search needs
+
+loop-again : tie.Need-loop-again Inv-loop μ-loop
+loop-again c = search (left-more, devices-more)
+
+returns : tie.Need-returns Inv-loop μ-loop
+returns c = search (left-end, devices-end)
+
+pub put-devices-spec : {M : Type 1} → statement M
+put-devices-spec =
+    tie.close
+    (tie.spec
+    Inv-loop
+    μ-loop
+    loop-holds
+    element-copy-out-put-device
+    put-device-requires
+    add-device
+    loop-less
+    loop-again
+    returns)

@@ -1,0 +1,29 @@
+use Rattle.reply.proofs.Putting.{word-room, items-room, close-room, line-puts}
+use borrow.Author.Needs.{needs}
+use Rattle.reply.proofs.lines.put_hold.Statement.{statement}
+use Rattle.reply.proofs.lines.put_hold.Tie as tie
+
+slice-aggregate-put : tie.Need-slice-aggregate-put
+slice-aggregate-put c = search needs
+
+put-requires : tie.Need-put-requires
+put-requires c κs = search word-room
+
+put-devices-requires : tie.Need-put-devices-requires
+put-devices-requires c κs = search items-room
+
+close-line-requires : tie.Need-close-line-requires
+close-line-requires c κs = search close-room
+
+returns : tie.Need-returns
+returns c = search line-puts
+
+pub put-hold-spec : {M : Type 1} → statement M
+put-hold-spec =
+    tie.close
+    (tie.spec
+    slice-aggregate-put
+    put-requires
+    put-devices-requires
+    close-line-requires
+    returns)

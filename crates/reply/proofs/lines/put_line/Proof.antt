@@ -1,0 +1,24 @@
+use Rattle.reply.proofs.Putting.{word-room, items-room, close-room, line-puts}
+use Rattle.reply.proofs.lines.put_line.Statement.{statement}
+use Rattle.reply.proofs.lines.put_line.Tie as tie
+
+put-requires : tie.Need-put-requires
+put-requires c κs = search word-room
+
+put-numbers-requires : tie.Need-put-numbers-requires
+put-numbers-requires c κs = search items-room
+
+close-line-requires : tie.Need-close-line-requires
+close-line-requires c κs = search close-room
+
+returns : tie.Need-returns
+returns c = search line-puts
+
+pub put-line-spec : {M : Type 1} → statement M
+put-line-spec =
+    tie.close
+    (tie.spec
+    put-requires
+    put-numbers-requires
+    close-line-requires
+    returns)

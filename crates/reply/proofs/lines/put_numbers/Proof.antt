@@ -1,0 +1,60 @@
+use Prim.Native.Nat.{_-_}
+use lib.ListN.{length, drop}
+use Rattle.typed.specs.Printing.{digitsOf}
+use Rattle.reply.specs.Printed.{spaced}
+use Rattle.reply.proofs.Putting.{Left, left-start, left-more, left-end}
+use Rattle.reply.proofs.Items.{numbers-more, numbers-room, numbers-end}
+use borrow.Author.Needs.{needs}
+use Rattle.reply.proofs.lines.put_numbers.Statement.{statement}
+use Rattle.reply.proofs.lines.put_numbers.Tie as tie
+
+-- Invariant: putting the numbers that are left leaves what putting all of them leaves; putting one takes it off the rest (`left-more`).
+abbrev Inv-loop : tie.InvT-loop
+Inv-loop numbers at out₀ next₀ i₀ blank out next i = Left (spaced digitsOf (drop i numbers)) (spaced digitsOf numbers) at out₀ next out
+
+-- Measure: the numbers left.
+abbrev μ-loop : tie.MeasureT-loop
+μ-loop numbers at out₀ next₀ i₀ blank out next i = length numbers - i
+
+loop-holds : tie.Need-loop-holds Inv-loop μ-loop
+loop-holds c = search left-start
+
+slice-aggregate-put-number : tie.Need-slice-aggregate-put-number Inv-loop μ-loop
+slice-aggregate-put-number c = search needs
+
+mul-put-number : tie.Need-mul-put-number Inv-loop μ-loop
+mul-put-number c = search needs
+
+shared-slice-read-put-number : tie.Need-shared-slice-read-put-number Inv-loop μ-loop
+shared-slice-read-put-number c = search needs
+
+put-number-requires : tie.Need-put-number-requires Inv-loop μ-loop
+put-number-requires c κs = search numbers-room
+
+add-i : tie.Need-add-i Inv-loop μ-loop
+add-i c = search needs
+
+loop-less : tie.Need-loop-less Inv-loop μ-loop
+loop-less c = search needs
+
+loop-again : tie.Need-loop-again Inv-loop μ-loop
+loop-again c = search (left-more, numbers-more)
+
+returns : tie.Need-returns Inv-loop μ-loop
+returns c = search (left-end, numbers-end)
+
+pub put-numbers-spec : {M : Type 1} → statement M
+put-numbers-spec =
+    tie.close
+    (tie.spec
+    Inv-loop
+    μ-loop
+    loop-holds
+    slice-aggregate-put-number
+    mul-put-number
+    shared-slice-read-put-number
+    put-number-requires
+    add-i
+    loop-less
+    loop-again
+    returns)

@@ -1,0 +1,106 @@
+use Rattle.reply.proofs.Lengths.{none-fits, spent-fits, least-fits, hold-fits}
+use Rattle.reply.proofs.Prints.{prints-least, prints-none, prints-spent, prints-refused}
+use borrow.Author.Needs.{needs}
+use Rattle.reply.proofs.print_answer.Statement.{statement}
+use Rattle.reply.proofs.print_answer.Tie as tie
+
+enum-known-answer : tie.Need-enum-known-answer
+enum-known-answer c = search needs
+
+cast-t19 : tie.Need-cast-t19
+cast-t19 c = search needs
+
+cast-t20 : tie.Need-cast-t20
+cast-t20 c = search needs
+
+slice-aggregate-put-line : tie.Need-slice-aggregate-put-line
+slice-aggregate-put-line c = search needs
+
+slice-aggregate-put-line-2 : tie.Need-slice-aggregate-put-line-2
+slice-aggregate-put-line-2 c = search needs
+
+put-line-requires : tie.Need-put-line-requires
+put-line-requires c κs = search least-fits
+
+put-hold-requires : tie.Need-put-hold-requires
+put-hold-requires c κs = search hold-fits
+
+enum-known-answer-2 : tie.Need-enum-known-answer-2
+enum-known-answer-2 c = search needs
+
+cast-t27 : tie.Need-cast-t27
+cast-t27 c = search needs
+
+slice-aggregate-put-line-3 : tie.Need-slice-aggregate-put-line-3
+slice-aggregate-put-line-3 c = search needs
+
+slice-aggregate-put-line-4 : tie.Need-slice-aggregate-put-line-4
+slice-aggregate-put-line-4 c = search needs
+
+put-line-requires-2 : tie.Need-put-line-requires-2
+put-line-requires-2 c κs = search none-fits
+
+enum-known-answer-3 : tie.Need-enum-known-answer-3
+enum-known-answer-3 c = search needs
+
+cast-t33 : tie.Need-cast-t33
+cast-t33 c = search needs
+
+slice-aggregate-put-line-5 : tie.Need-slice-aggregate-put-line-5
+slice-aggregate-put-line-5 c = search needs
+
+slice-aggregate-put-line-6 : tie.Need-slice-aggregate-put-line-6
+slice-aggregate-put-line-6 c = search needs
+
+put-line-requires-3 : tie.Need-put-line-requires-3
+put-line-requires-3 c κs = search spent-fits
+
+enum-known-answer-4 : tie.Need-enum-known-answer-4
+enum-known-answer-4 c = search needs
+
+code-of-requires : tie.Need-code-of-requires
+code-of-requires c κs = search needs
+
+put-refused-requires : tie.Need-put-refused-requires
+put-refused-requires c κs = search needs
+
+returns : tie.Need-returns
+returns c = search prints-least
+
+returns-2 : tie.Need-returns-2
+returns-2 c = search prints-none
+
+returns-3 : tie.Need-returns-3
+returns-3 c = search prints-spent
+
+returns-4 : tie.Need-returns-4
+returns-4 c = search prints-refused
+
+pub print-answer-spec : {M : Type 1} → statement M
+print-answer-spec =
+    tie.close
+    (tie.spec
+    enum-known-answer
+    cast-t19
+    cast-t20
+    slice-aggregate-put-line
+    slice-aggregate-put-line-2
+    put-line-requires
+    put-hold-requires
+    enum-known-answer-2
+    cast-t27
+    slice-aggregate-put-line-3
+    slice-aggregate-put-line-4
+    put-line-requires-2
+    enum-known-answer-3
+    cast-t33
+    slice-aggregate-put-line-5
+    slice-aggregate-put-line-6
+    put-line-requires-3
+    enum-known-answer-4
+    code-of-requires
+    put-refused-requires
+    returns
+    returns-2
+    returns-3
+    returns-4)

@@ -1,0 +1,59 @@
+use Prim.Native.Nat.{_+_, _-_}
+use mathlib.Core.Path.{_≡_}
+use lib.ListN.{length, drop}
+use lib.Seq.{sets}
+use Rattle.reply.proofs.Putting.{copy-start, copy-more, copy-end}
+use borrow.Author.Needs.{needs}
+use Rattle.reply.proofs.put.put.Statement.{statement}
+use Rattle.reply.proofs.put.put.Tie as tie
+
+-- Invariant: writing the bytes that are left leaves what writing all of them leaves; writing one takes it off the rest (`copy-more`).
+abbrev Inv-loop : tie.InvT-loop
+Inv-loop bytes at out₀ i₀ out i = sets out (at + i) (drop i bytes) ≡ sets out₀ at bytes
+
+-- Measure: the bytes left.
+abbrev μ-loop : tie.MeasureT-loop
+μ-loop bytes at out₀ i₀ out i = length bytes - i
+
+loop-holds : tie.Need-loop-holds Inv-loop μ-loop
+loop-holds c = search copy-start
+
+shared-slice-read-out : tie.Need-shared-slice-read-out Inv-loop μ-loop
+shared-slice-read-out c = search needs
+
+add-out : tie.Need-add-out Inv-loop μ-loop
+add-out c = search needs
+
+element-write-out : tie.Need-element-write-out Inv-loop μ-loop
+element-write-out c = search needs
+
+add-i : tie.Need-add-i Inv-loop μ-loop
+add-i c = search needs
+
+loop-less : tie.Need-loop-less Inv-loop μ-loop
+loop-less c = search needs
+
+loop-again : tie.Need-loop-again Inv-loop μ-loop
+loop-again c = search copy-more
+
+add-result : tie.Need-add-result Inv-loop μ-loop
+add-result c = search needs
+
+returns : tie.Need-returns Inv-loop μ-loop
+returns c = record { ends = search needs; leaves = search copy-end; fits = search needs }
+
+pub put-spec : {M : Type 1} → statement M
+put-spec =
+    tie.close
+    (tie.spec
+    Inv-loop
+    μ-loop
+    loop-holds
+    shared-slice-read-out
+    add-out
+    element-write-out
+    add-i
+    loop-less
+    loop-again
+    add-result
+    returns)

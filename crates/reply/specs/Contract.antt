@@ -1,0 +1,48 @@
+-- The contracts of `print_answer` and `answer`, and of the functions that put bytes into the lent room.
+--
+-- In order: bytes that fit the room, and the room after they were put there; an answer and a plan room as the answer that is
+-- printed; the two contracts. A room is stated by the stores that were made, so what lies behind them is unchanged. Definitions
+-- only.
+use mathlib.Core.Path.{_≡_}
+use mathlib.Core.List.{List}
+use Prim.Native.Nat.{ℕ, _+_, _≤_}
+use lib.ListN.{length, take}
+use lib.Seq.{sets}
+use Rattle.hall.specs.Answer as hall
+use Rattle.sheet.specs.Contract.{faultOf}
+use Rattle.search.specs.declared.Answer.{Answer}
+use Rattle.search.specs.declared.Answer.the-variants.{Least, None, Spent, Refused}
+use Rattle.reply.specs.Printed.{printedAnswer, printedFor}
+
+-- bytes have room from a place on
+abbrev pub Fits : List ℕ → ℕ → Type 0
+Fits bytes at = at + length bytes ≤ 1024
+
+-- bytes were put into a room from a place on; r is the place behind them
+pub record Puts (bytes : List ℕ) (at : ℕ) (before : List ℕ) (r : ℕ) (after : List ℕ) : Type 0 where
+  pub ends : r ≡ at + length bytes
+  pub leaves : after ≡ sets before at bytes
+  pub fits : r ≤ 1024
+
+-- an answer of the search, with the plan in its room, as the definitions have it
+abbrev pub answerOf : Answer → List ℕ → hall.Answer
+answerOf (Least cost held opened) plan = hall.least cost held opened plan
+answerOf (None opened) plan = hall.none opened
+answerOf (Spent opened) plan = hall.spent opened
+answerOf (Refused kind place) plan = hall.refused (faultOf kind) place
+
+-- the lines of an answer, of a plan room of 200 marks
+abbrev pub linesOf : Answer → List ℕ → List ℕ
+linesOf answer plan = printedAnswer (answerOf answer (take 200 plan))
+
+-- the contract of `print_answer`: r is the length of the lines, they stand in front of the room, and always fit
+pub record Prints (answer : Answer) (plan before : List ℕ) (r : ℕ) (after : List ℕ) : Type 0 where
+  pub says : r ≡ length (linesOf answer plan)
+  pub room : after ≡ sets before 0 (linesOf answer plan)
+  pub fits : r ≤ 1024
+
+-- the contract of `answer`: from the text that was typed to the bytes that are printed
+pub record Replies (text before : List ℕ) (r : ℕ) (after : List ℕ) : Type 0 where
+  pub says : r ≡ length (printedFor text)
+  pub room : after ≡ sets before 0 (printedFor text)
+  pub fits : r ≤ 1024

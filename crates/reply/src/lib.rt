@@ -1,0 +1,66 @@
+// What `leastplan` prints, as bytes in a lent room; and the whole way from a typed text to them. 01, "What leastplan prints".
+//
+// put copies bytes and digits into the room; lines makes a line of a word and its numbers, and the line of the held devices.
+ghost use mathlib.Core.Path.{_≡_};
+ghost use lib.ListN.{length, replicate};
+ghost use Rattle.reply.specs.Contract.{Prints, Replies};
+
+mod lines;
+mod put;
+
+use lines::put_hold;
+use lines::put_line;
+use lines::put_refused;
+use search::Answer;
+use typed::Reading;
+
+// Room for the words of any sheet.
+fn no_words() -> [i32; 16384]
+    ensures { λ r. ⌜ length r ≡ 16384 ⌝ }
+{
+    [0i32; 16384]
+}
+
+// Room for a plan of any hall, with nothing held.
+fn no_marks() -> [u8; 200]
+    ensures { λ r. ⌜ r ≡ replicate 200 0 ⌝ }
+{
+    [0u8; 200]
+}
+
+// The lines of an answer, with the devices that the plan holds; a mark other than 1 and 2 holds nothing.
+pub fn print_answer(answer: Answer, plan: &[u8; 200], out: &mut [u8; 1024]) -> usize
+    ensures { λ r. ⌜ Prints answer (now (plan .entry)) (now (out .entry)) r (now (out .exit)) ⌝ }
+{
+    match answer {
+        Answer::Least(cost, held, opened) => {
+            let numbers = [cost, held as u64, opened as u64];
+            let next = put_line(b"least", &numbers, 0, out);
+            put_hold(plan, next, out)
+        }
+        Answer::None(opened) => {
+            let numbers = [opened as u64];
+            put_line(b"none", &numbers, 0, out)
+        }
+        Answer::Spent(opened) => {
+            let numbers = [opened as u64];
+            put_line(b"spent", &numbers, 0, out)
+        }
+        Answer::Refused(kind, place) => put_refused(sheet::code_of(kind), place, out),
+    }
+}
+
+// The whole way: the text is read into words, the least plan of their sheet is searched, and the answer is printed.
+pub fn answer(text: &[u8], out: &mut [u8; 1024]) -> usize
+    ensures { λ r. ⌜ Replies (now (text .entry)) (now (out .entry)) r (now (out .exit)) ⌝ }
+{
+    let mut words = no_words();
+    match typed::read(text, &mut words) {
+        Reading::Refused(mistake, place) => put_refused(typed::code_of(mistake), place, out),
+        Reading::Words(w) => {
+            let mut plan = no_marks();
+            let found = search::least_plan(&words[0..w], 1000000, &mut plan);
+            print_answer(found, &plan, out)
+        }
+    }
+}
