@@ -1,0 +1,204 @@
+/*
+ * Time per opened node of the proved walk and of the walk in C, in turn in one program.
+ *
+ *   measure sheets    a table of six sheets, and what a call takes besides its nodes
+ *   measure growth    lines KIND SIZE OURS C, in nanoseconds per node, for sheets with more and more rules or devices
+ *
+ * Each figure is the best of several runs by the processor's clock. Both walks have to give the same answer.
+ */
+#define _POSIX_C_SOURCE 199309L
+#include "../include/leastplan.h"
+#include "walk.h"
+
+#include <stdio.h>
+#include <stdlib.h>
+#include <string.h>
+#include <time.h>
+
+typedef void search(const int32_t *, size_t, uint32_t, uint8_t *, size_t, uint64_t[4]);
+
+enum { RUNS = 5 };
+
+/* ---- sheets, from a seed: xorshift64* */
+
+static uint64_t state;
+static int32_t words[16384];
+static size_t count;
+
+static uint32_t below(uint32_t n)
+{
+    state ^= state >> 12;
+    state ^= state << 25;
+    state ^= state >> 27;
+    return (uint32_t)((state * UINT64_C(2685821657736338717) >> 33) % n);
+}
+
+static void put(int32_t w)
+{
+    if (count == sizeof words / sizeof words[0]) {
+        puts("a sheet has more than 16,384 words");
+        exit(1);
+    }
+    words[count++] = w;
+}
+
+static int32_t either(uint32_t v)
+{
+    return below(2) ? (int32_t)v : -(int32_t)v;
+}
+
+static void begin(int devices, int rules, uint32_t costs)
+{
+    state = UINT64_C(0x9e3779b97f4a7c15);
+    count = 0;
+    put(devices);
+    for (int v = 0; v < devices; v++)
+        put(1 + (int32_t)below(costs));
+    put(rules);
+}
+
+/* Rules of one width, with devices and positions drawn at random. */
+static void random_sheet(int devices, int rules, int width)
+{
+    begin(devices, rules, 1000);
+    for (int r = 0; r < rules; r++) {
+        put(width);
+        for (int j = 0; j < width; j++)
+            put(either(1 + below((uint32_t)devices)));
+    }
+}
+
+/*
+ * The first half of the devices, at most 40, is held at 1 by rules of width 1. The rules behind them are met by their last entry
+ * alone, so that every node below tests every entry of them. Forty rules of width 4 over the other devices, all of one cost, make
+ * the walk long.
+ */
+static void late_sheet(int devices, int rules, int width)
+{
+    int held = devices / 2 < 40 ? devices / 2 : 40, tail = 40;
+    begin(devices, rules, 1);
+    for (int v = 1; v <= held; v++) {
+        put(1);
+        put(v);
+    }
+    for (int r = held; r < rules - tail; r++) {
+        put(width);
+        for (int j = 1; j < width; j++)
+            put(-(1 + (int32_t)below((uint32_t)held)));
+        put(1 + (int32_t)below((uint32_t)held));
+    }
+    for (int r = 0; r < tail; r++) {
+        put(4);
+        for (int j = 0; j < 4; j++)
+            put(either((uint32_t)held + 1 + below((uint32_t)(devices - held))));
+    }
+}
+
+/* ---- measuring */
+
+static double now(void)
+{
+    struct timespec t;
+    clock_gettime(CLOCK_PROCESS_CPUTIME_ID, &t);
+    return (double)t.tv_sec * 1e9 + (double)t.tv_nsec;
+}
+
+struct answer {
+    uint8_t room[200];
+    uint64_t numbers[4];
+};
+
+/* Nanoseconds per opened node, over as many calls as open so many nodes. */
+static double per_node(search *f, uint32_t budget, uint64_t nodes, struct answer *a)
+{
+    uint64_t opened = 0;
+    memset(a, 0, sizeof *a);
+    double start = now();
+    do {
+        f(words, count, budget, a->room, sizeof a->room, a->numbers);
+        opened += a->numbers[0] == 0 ? a->numbers[3] : a->numbers[1];
+    } while (opened < nodes);
+    return (now() - start) / (double)opened;
+}
+
+struct figures {
+    double ours, c;
+    struct answer answer;
+};
+
+static struct figures measure(uint32_t budget, uint64_t nodes)
+{
+    struct figures f = {1e30, 1e30, {{0}, {0}}};
+    for (int i = 0; i < RUNS; i++) {
+        struct answer ours, c;
+        double t = per_node(leastplan_search, budget, nodes, &ours);
+        if (t < f.ours)
+            f.ours = t;
+        t = per_node(walk_search, budget, nodes, &c);
+        if (t < f.c)
+            f.c = t;
+        if (memcmp(&ours, &c, sizeof ours) != 0) {
+            puts("the two walks differ");
+            exit(1);
+        }
+        f.answer = ours;
+    }
+    return f;
+}
+
+static void row(const char *name, uint32_t budget)
+{
+    static const char *const meaning[] = {"least", "none", "spent"};
+    struct figures f = measure(budget, budget / 2);
+    uint64_t *numbers = f.answer.numbers;
+    printf("%-36s %-6s %9llu %12.0f %12.0f %7.3f\n", name, numbers[0] < 3 ? meaning[numbers[0]] : "refused",
+           (unsigned long long)(numbers[0] == 0 ? numbers[3] : numbers[1]), 1e9 / f.ours, 1e9 / f.c, f.c / f.ours);
+    fflush(stdout);
+}
+
+static void sheets(void)
+{
+    printf("%-36s %-6s %9s %12s %12s %7s\n", "sheet", "answer", "nodes", "ours, /s", "C, /s", "ours/C");
+    random_sheet(30, 60, 3);
+    row("30 devices, 60 rules of width 3", 1000000);
+    random_sheet(200, 1500, 3);
+    row("200 devices, 1,500 rules of width 3", 300000);
+    random_sheet(200, 100, 32);
+    row("200 devices, 100 rules of width 32", 300000);
+    late_sheet(200, 130, 32);
+    row("200 devices, 130 rules, met late", 200000);
+    random_sheet(20, 40, 3);
+    row("20 devices, 40 rules, to the end", 300000);
+    random_sheet(12, 30, 3);
+    row("12 devices, 30 rules, to the end", 500000);
+    struct figures f = measure(1, 500);
+    printf("a call that opens one node of the last sheet: %.1f microseconds, in C %.1f\n", f.ours / 1e3, f.c / 1e3);
+}
+
+static void point(const char *kind, int size)
+{
+    struct figures f = measure(8000, 8000);
+    printf("%s %d %.2f %.2f\n", kind, size, f.ours, f.c);
+    fflush(stdout);
+}
+
+static void growth(void)
+{
+    for (int rules = 250; rules <= 2000; rules += 250) {
+        late_sheet(200, rules, 3);
+        point("rules", rules);
+    }
+    for (int devices = 25; devices <= 200; devices += 25) {
+        late_sheet(devices, 1000, 3);
+        point("devices", devices);
+    }
+}
+
+int main(int argc, char **argv)
+{
+    if (argc == 2 && strcmp(argv[1], "growth") == 0)
+        growth();
+    else
+        sheets();
+    return 0;
+}

@@ -1,0 +1,10 @@
+/* The walk in C, for comparison of speed. The sheet has to be a good one: nothing is checked. */
+#ifndef WALK_H
+#define WALK_H
+
+#include <stddef.h>
+#include <stdint.h>
+
+void walk_search(const int32_t *words, size_t words_len, uint32_t budget, uint8_t *room, size_t room_len, uint64_t numbers[4]);
+
+#endif

@@ -1,0 +1,3 @@
+-- The laws behind the proofs, in the order of the argument.
+pub mod Told
+pub mod Only

@@ -1,0 +1,86 @@
+/*
+ * leastplan: the least restriction plan of a hall sheet.
+ *
+ * The functions below are in the archive libexported.a, for Linux on x86-64. docs/LIBRARY.md has how to build and link it, and a
+ * whole example. They keep nothing between calls, allocate nothing and may be called from several threads at once.
+ *
+ * Duties of the caller, for every pointer of every call:
+ *   - it is not null, also where the length beside it is 0;
+ *   - it is aligned as C aligns its type;
+ *   - as many elements as the length beside it says can be read there and, where the pointer is not to const, written; an array
+ *     parameter such as numbers[4] has all its elements;
+ *   - what it points at overlaps nothing that another pointer of the same call points at, and nothing else reads or writes it
+ *     during the call;
+ *   - every element that is lent to be written has a value before the call, whichever it is.
+ */
+#ifndef LEASTPLAN_H
+#define LEASTPLAN_H
+
+#include <stddef.h>
+#include <stdint.h>
+
+#ifdef __cplusplus
+extern "C" {
+#endif
+
+/* The first number of an answer. */
+enum {
+    LEASTPLAN_LEAST = 0,
+    LEASTPLAN_NONE = 1,
+    LEASTPLAN_SPENT = 2,
+    LEASTPLAN_TOO_SHORT = 11,
+    LEASTPLAN_BAD_COUNT = 12,
+    LEASTPLAN_BAD_COST = 13,
+    LEASTPLAN_BAD_ENTRY = 14,
+    LEASTPLAN_EXTRA_WORDS = 15,
+    LEASTPLAN_SMALL_ROOM = 16,
+    LEASTPLAN_TOO_LONG = 17
+};
+
+/*
+ * Finds the least plan of the sheet in words[0] to words[words_len - 1], and opens at most budget trial plans for it.
+ *
+ * The answer goes to the front of numbers, code first:
+ *
+ *   numbers[0]  meaning                                     numbers[1]          numbers[2]    numbers[3]
+ *    0          least plan                                  cost                devices held  nodes opened
+ *    1          no plan meets every rule                    nodes opened        unchanged     unchanged
+ *    2          the budget is spent                         the budget          unchanged     unchanged
+ *   11          the sheet ends too soon                     words_len           unchanged     unchanged
+ *   12          a device count, a rule count or a width     place of that word  unchanged     unchanged
+ *               is outside its range
+ *   13          a cost is outside its range                 place of that word  unchanged     unchanged
+ *   14          an entry is 0 or beyond the device count    place of that word  unchanged     unchanged
+ *   15          words stand after the last rule             place of the first  unchanged     unchanged
+ *   16          the room has fewer bytes than there are     the device count    unchanged     unchanged
+ *               devices
+ *   17          there are more than 16,384 words            16384               unchanged     unchanged
+ *
+ * Places are word numbers from 0. With code 0 the first bytes of room are the plan, one for each device, 0 free, 1 held at
+ * position 1, 2 held at position 0, and the rest of room is unchanged. With any other code all of room is unchanged.
+ */
+void leastplan_search(const int32_t *words, size_t words_len, uint32_t budget, uint8_t *room, size_t room_len, uint64_t numbers[4]);
+
+/*
+ * Answers a sheet typed as text, text[0] to text[text_len - 1], as the program leastplan does: under a budget of 1,000,000 trial
+ * plans. The bytes that the program prints go to the front of out, with no byte 0 behind them, and how many they are is returned;
+ * they always fit, and the rest of out is unchanged. They are the line "least COST HELD OPENED" with the line "hold" and the held
+ * devices, or one line "none OPENED", "spent 1000000" or "refused CODE PLACE", each closed by byte 10. CODE is one of the codes
+ * 11 to 15 above with its place in words, or
+ *
+ *   21          a wrong byte in a token, or a minus with    that byte, or where the digit should stand
+ *               no digit after it
+ *   22          more than 10 digits, or a value that does   the token's first byte
+ *               not fit 32 bits
+ *   23          more than 60,000 bytes                      60000
+ *   24          more than 16,384 tokens                     first byte of the first token beyond
+ *
+ * with its place in bytes, from 0.
+ */
+size_t leastplan_answer(const uint8_t *text, size_t text_len, uint8_t out[1024]);
+
+#ifdef __cplusplus
+}
+#endif
+
+#endif
