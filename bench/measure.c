@@ -158,19 +158,24 @@ static void row(const char *name, uint32_t budget)
 
 static void sheets(void)
 {
+    static const struct {
+        const char *name;
+        void (*make)(int devices, int rules, int width);
+        int devices, rules, width;
+        uint32_t budget;
+    } sheet[] = {
+        {"30 devices, 60 rules of width 3", random_sheet, 30, 60, 3, 1000000},
+        {"200 devices, 1,500 rules of width 3", random_sheet, 200, 1500, 3, 300000},
+        {"200 devices, 100 rules of width 32", random_sheet, 200, 100, 32, 300000},
+        {"200 devices, 130 rules, met late", late_sheet, 200, 130, 32, 200000},
+        {"20 devices, 40 rules, to the end", random_sheet, 20, 40, 3, 300000},
+        {"12 devices, 30 rules, to the end", random_sheet, 12, 30, 3, 500000},
+    };
     printf("%-36s %-6s %9s %12s %12s %7s\n", "sheet", "answer", "nodes", "ours, /s", "C, /s", "ours/C");
-    random_sheet(30, 60, 3);
-    row("30 devices, 60 rules of width 3", 1000000);
-    random_sheet(200, 1500, 3);
-    row("200 devices, 1,500 rules of width 3", 300000);
-    random_sheet(200, 100, 32);
-    row("200 devices, 100 rules of width 32", 300000);
-    late_sheet(200, 130, 32);
-    row("200 devices, 130 rules, met late", 200000);
-    random_sheet(20, 40, 3);
-    row("20 devices, 40 rules, to the end", 300000);
-    random_sheet(12, 30, 3);
-    row("12 devices, 30 rules, to the end", 500000);
+    for (size_t i = 0; i < sizeof sheet / sizeof sheet[0]; i++) {
+        sheet[i].make(sheet[i].devices, sheet[i].rules, sheet[i].width);
+        row(sheet[i].name, sheet[i].budget);
+    }
     struct figures f = measure(1, 500);
     printf("a call that opens one node of the last sheet: %.1f microseconds, in C %.1f\n", f.ours / 1e3, f.c / 1e3);
 }
