@@ -24,13 +24,10 @@ use Rattle.sheet.specs.declared.Refusal.{Refusal}
 use Rattle.sheet.specs.declared.Sheet.{Sheet}
 use Rattle.sheet.specs.declared.Sheet.the-variants as sheet
 use Rattle.sheet.proofs.Coded.{few-entries, hall-back, hall-end, hall-laid}
-use Rattle.search.specs.Solve as found
 use Rattle.search.specs.Solve.{Solvable, Gives}
-use Rattle.search.specs.Contract.{numbersOf, Finds}
+use Rattle.search.specs.Contract.{Finds}
 use Rattle.search.specs.declared.Answer.{Answer}
-use Rattle.search.specs.declared.Answer.the-variants.{Least, None, Spent, Refused}
-use Rattle.search.specs.declared.solve.Found.{Found}
-use Rattle.search.specs.declared.solve.Found.the-variants as found-is
+use Rattle.search.specs.declared.Answer.the-variants.{Refused}
 use Rattle.search.proofs.Finds.{finds}
 
 -- ── a refused sheet ──
@@ -137,18 +134,9 @@ module _ (ws : List ℤ) (costs codes starts costs′ codes′ starts′ : List 
   pub call-solvable : Solvable (take (n - 0) costs′) codes′ starts′ m before
   call-solvable = rw (sub-zero n) solvable
 
-  call-found : (budget : ℕ) (f : Found) (after : List ℕ) → Gives (hallOf (take (n - 0) costs′) codes′ starts′ m) budget f before after → (r : Answer) → numbersOf r ≡ found.numbersOf f → Finds ws budget before r after
+  pub call-found : (budget : ℕ) (r : Answer) (after : List ℕ) → Gives (hallOf (take (n - 0) costs′) codes′ starts′ m) budget r before after → Finds ws budget before r after
   unfolding answer h
-  call-found budget f after g r q =
+  call-found budget r after g =
       let a : answer ws budget (length before) ≡ within h budget (walkHall h) = ap (answerRead budget) (hall-read .is) in
-      let b = subst (λ (x : Hall). Gives x budget f before after) (ap (λ (k : ℕ). hallOf (take k costs′) codes′ starts′ m) (sub-zero n) ∙ back) g in
-      finds ws budget before r (q ∙ b .says ∙ sym (ap numbers a)) after (b .room ∙ sym (ap (λ x. roomAfter x before) a))
-
-  pub call-least : (budget : ℕ) (f : Found) (after : List ℕ) → Gives (hallOf (take (n - 0) costs′) codes′ starts′ m) budget f before after → (cost held opened : ℕ) → f ≡ found-is.Least cost held opened → Finds ws budget before (Least cost held opened) after
-  call-least budget f after g cost held opened u = call-found budget f after g (Least cost held opened) (sym (ap found.numbersOf u))
-
-  pub call-none : (budget : ℕ) (f : Found) (after : List ℕ) → Gives (hallOf (take (n - 0) costs′) codes′ starts′ m) budget f before after → (opened : ℕ) → f ≡ found-is.Nothing opened → Finds ws budget before (None opened) after
-  call-none budget f after g opened u = call-found budget f after g (None opened) (sym (ap found.numbersOf u))
-
-  pub call-spent : (budget : ℕ) (f : Found) (after : List ℕ) → Gives (hallOf (take (n - 0) costs′) codes′ starts′ m) budget f before after → (opened : ℕ) → f ≡ found-is.Spent opened → Finds ws budget before (Spent opened) after
-  call-spent budget f after g opened u = call-found budget f after g (Spent opened) (sym (ap found.numbersOf u))
+      let b = subst (λ (x : Hall). Gives x budget r before after) (ap (λ (k : ℕ). hallOf (take k costs′) codes′ starts′ m) (sub-zero n) ∙ back) g in
+      finds ws budget before r (b .says ∙ sym (ap numbers a)) after (b .room ∙ sym (ap (λ x. roomAfter x before) a))

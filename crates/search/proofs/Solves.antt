@@ -19,7 +19,7 @@ use Rattle.search.specs.declared.meter.Meter.{Meter}
 use Rattle.search.specs.declared.node.State.{State}
 use Rattle.search.specs.declared.walk.Went.{Went}
 use Rattle.search.specs.declared.walk.Went.the-variants as went
-use Rattle.search.specs.declared.solve.Found.the-variants.{Least, Nothing, Spent}
+use Rattle.search.specs.declared.Answer.the-variants.{Least, None, Spent}
 use Rattle.search.specs.Best.{bestOf}
 use Rattle.search.specs.Ends.{WentOn, IsSpent, Ends}
 use Rattle.search.specs.Walk.{Node, Walks}
@@ -59,7 +59,7 @@ module _ {costs codes starts : List ℕ} {m budget : ℕ} {p best room : List �
       went-on : WentOn costs (begun budget .meter) (walkHall h) last best′
       went-on = rw f at ended
 
-      pub gives-none : last .best .found ≡ false → Gives h budget (Nothing (last .meter .count)) room room
+      pub gives-none : last .best .found ≡ false → Gives h budget (None (last .meter .count)) room room
       gives-none g =
           let u = went-on .within in
           let b : walkHall h .best ≡ noneYet = sym (went-on .best) ∙ rw g refl in

@@ -1,18 +1,17 @@
 -- The search of a coded hall, and what it gives. 01, "The answer sheet of the search", codes 0, 1 and 2.
 --
--- In order: the state before the first node; what `solve` and `run` ask; the numbers of what is found; what both give. Definitions
--- only.
+-- In order: the state before the first node; what `solve` and `run` ask; what both give. Definitions only.
 use mathlib.Core.Path.{_≡_}
 use mathlib.Core.Bool.{false}
-use mathlib.Core.List.{List, [], _∷_}
+use mathlib.Core.List.{List}
 use Prim.Native.Nat.{ℕ, _≤_}
 use lib.ListN.{length, replicate}
 use Rattle.hall.specs.Hall.{Hall}
 use Rattle.hall.specs.Walk.{walkHall}
 use Rattle.hall.specs.Answer.{within, numbers, roomAfter}
 use Rattle.search.specs.declared.node.State.{State}
-use Rattle.search.specs.declared.solve.Found.{Found}
-use Rattle.search.specs.declared.solve.Found.the-variants.{Least, Nothing, Spent}
+use Rattle.search.specs.declared.Answer.{Answer}
+use Rattle.search.specs.Contract.{numbersOf}
 use Rattle.search.specs.Walk.{Loaded}
 
 -- nothing counted, and no best so far
@@ -30,13 +29,7 @@ pub record Ready (costs codes starts : List ℕ) (m : ℕ) (p best room : List �
   pub free : p ≡ replicate (length costs) 0
   pub same-best : length best ≡ length costs
 
--- "Code" and "Returned" of the table, codes 0, 1 and 2
-abbrev pub numbersOf : Found → List ℕ
-numbersOf (Least cost held opened) = 0 ∷ cost ∷ held ∷ opened ∷ []
-numbersOf (Nothing opened) = 1 ∷ opened ∷ []
-numbersOf (Spent opened) = 2 ∷ opened ∷ []
-
--- what was found is the answer to the hall under the budget, in its numbers and in the plan room
-pub record Gives (h : Hall) (budget : ℕ) (found : Found) (before after : List ℕ) : Type 0 where
-  pub says : numbersOf found ≡ numbers (within h budget (walkHall h))
+-- the answer to the hall under the budget, in its numbers and in the plan room
+pub record Gives (h : Hall) (budget : ℕ) (r : Answer) (before after : List ℕ) : Type 0 where
+  pub says : numbersOf r ≡ numbers (within h budget (walkHall h))
   pub room : after ≡ roomAfter (within h budget (walkHall h)) before

@@ -15,7 +15,7 @@ mod walk;
 
 use sheet::Refusal;
 use sheet::Sheet;
-use solve::Found;
+use solve::solve;
 
 // Cost, devices held and nodes opened; or nodes opened; or the kind of refusal and its place.
 pub enum Answer {
@@ -52,10 +52,6 @@ pub fn least_plan(words: &[i32], budget: u32, room: &mut [u8]) -> Answer
     let mut starts = no_starts();
     match sheet::read(words, room.len(), &mut costs, &mut codes, &mut starts) {
         Sheet::Refused(kind, place) => Answer::Refused(kind, place),
-        Sheet::Hall(n, m) => match solve::solve(&costs[0..n], &codes, &starts, m, budget, room) {
-            Found::Least(cost, held, opened) => Answer::Least(cost, held, opened),
-            Found::Nothing(opened) => Answer::None(opened),
-            Found::Spent(opened) => Answer::Spent(opened),
-        },
+        Sheet::Hall(n, m) => solve(&costs[0..n], &codes, &starts, m, budget, room),
     }
 }

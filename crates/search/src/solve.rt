@@ -1,6 +1,7 @@
 // The walk of a coded hall from its first node, and what comes of it. 01, "The answer sheet of the search", codes 0, 1 and 2.
 //
 // The caller's room is written once, at the end, and only with a least plan.
+use crate::Answer;
 use crate::meter::Meter;
 use crate::node::BestSoFar;
 use crate::node::State;
@@ -11,13 +12,6 @@ ghost use mathlib.Core.Path.{_≡_};
 ghost use lib.ListN.{replicate};
 ghost use Rattle.sheet.specs.Coded.{hallOf};
 ghost use Rattle.search.specs.Solve.{begun, Ready, Solvable, Gives};
-
-// What a walk under a budget comes to: cost, held number and count of the least plan; or the count alone.
-pub(crate) enum Found {
-    Least(u64, u32, u32),
-    Nothing(u32),
-    Spent(u32),
-}
 
 // Nothing counted, and no best so far.
 fn at_start(budget: u32) -> State
@@ -42,21 +36,21 @@ pub(crate) fn run(
     plan: &mut [u8],
     best: &mut [u8],
     room: &mut [u8],
-) -> Found
+) -> Answer
     requires { ⌜ Ready (now costs) (now codes) (now starts) m (now plan) (now best) (now room) ⌝ }
     ensures { λ r. ⌜ Gives (hallOf (now (costs .entry)) (now (codes .entry)) (now (starts .entry)) m) budget r (now (room .entry)) (now (room .exit)) ⌝ }
 {
     match walk_plan(costs, codes, starts, m, plan, best, at_start(budget), 0, 0) {
-        Went::Spent(end) => Found::Spent(end.count),
+        Went::Spent(end) => Answer::Spent(end.count),
         Went::On(last) => {
             let numbers = last.best;
             let meter = last.meter;
             if numbers.found {
                 let n = best.len();
                 copy_plan(best, &mut room[0..n]);
-                Found::Least(numbers.cost, numbers.held, meter.count)
+                Answer::Least(numbers.cost, numbers.held, meter.count)
             } else {
-                Found::Nothing(meter.count)
+                Answer::None(meter.count)
             }
         }
     }
@@ -77,7 +71,7 @@ pub(crate) fn solve(
     m: usize,
     budget: u32,
     room: &mut [u8],
-) -> Found
+) -> Answer
     requires { ⌜ Solvable (now costs) (now codes) (now starts) m (now room) ⌝ }
     ensures { λ r. ⌜ Gives (hallOf (now (costs .entry)) (now (codes .entry)) (now (starts .entry)) m) budget r (now (room .entry)) (now (room .exit)) ⌝ }
 {
