@@ -1,7 +1,8 @@
 # For tests/differential/run and bench/run: the archive, a C compiler for x86-64, and how to run what it makes. To be sourced.
 #
 # Sets root, out, archive and cc, and defines x86 PROGRAM [WORD..]. The archive is for x86-64, so on another processor a cross
-# compiler makes the programs, and the emulator of the Rattle kit runs them.
+# compiler makes the programs, and the emulator of the Rattle kit runs them. The emulator carries out `rep stosb`, with which the C
+# library clears memory, one byte at a time: 118 microseconds for 32 KiB, 1.4 by the library's other way, which it is told to take.
 
 root=$(cd "$(dirname "${BASH_SOURCE[0]}")/../.." && pwd -P)
 archive=$root/target/staticlib/libexported.a
@@ -49,6 +50,7 @@ x86() { # PROGRAM [WORD..]
     [ -x "$tools/bin/qemu-x86_64" ] || give_up "the kit has no emulator at $tools/bin/qemu-x86_64"
     (
         for word in $(env | sed -n 's/^\(QEMU_[A-Za-z0-9_]*\)=.*/\1/p'); do unset "$word"; done
+        export GLIBC_TUNABLES=glibc.cpu.x86_rep_stosb_threshold=1073741824
         "$tools/bin/qemu-x86_64" "$tools/lib/ld-linux-x86-64.so.2" --library-path "$tools/lib" "$@"
     )
 }

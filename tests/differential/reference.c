@@ -1,119 +1,127 @@
 /*
- * A second implementation of the planner's paper, for comparison: written from the paper alone and for plainness, not speed.
- * Each node has a plan of its own, a plan's cost and number are summed anew wherever they are asked for, and rules are kept as
- * they are written.
+ * A reference for the planner of document 01, written to be held against the document sentence by sentence.
+ * Each node of the walk has a plan of its own; cost and held number are summed anew wherever they are asked for.
+ * Nothing here is made for speed.
  */
 #include "reference.h"
 
-#include <string.h>
+#include <inttypes.h>
+#include <stdbool.h>
+#include <stdio.h>
 
-enum { MOST_WORDS = 16384, MOST_DEVICES = 200, MOST_RULES = 2000, MOST_WIDTH = 32, MOST_COST = 1000000000 };
-
-enum { FREE = 0, AT_1 = 1, AT_0 = 2 };
-
-struct rule {
-    int width;
-    int entry[MOST_WIDTH];
-};
+/* ---- the hall sheet */
 
 struct sheet {
-    int devices;
-    int64_t cost[MOST_DEVICES + 1]; /* device 1 first; place 0 is not used */
-    int rules;
-    struct rule rule[MOST_RULES];
+    int32_t devices;
+    const int32_t *cost; /* cost[v] for device v; before them, at 0, stands the device count */
+    int32_t rules;
+    const int32_t *rule[2000]; /* of each rule: at 0 the width, from 1 on the entries */
 };
 
-struct plan {
-    unsigned char mark[MOST_DEVICES + 1];
-};
-
-/* ---- the hall sheet, from left to right */
-
+/* How far the sheet has been read, and its first fault. */
 struct reader {
     const int32_t *word;
     size_t words, next;
-    int code; /* 0 as long as nothing is wrong */
+    int code;
     size_t place;
 };
 
-static void refuse(struct reader *r, int code, size_t place)
+static bool refuse(struct reader *r, int code, size_t place)
 {
-    if (r->code == 0) {
-        r->code = code;
-        r->place = place;
-    }
+    r->code = code;
+    r->place = place;
+    return false;
 }
 
-/* The next word, if there is one and it lies in the range; else a refusal, with this code for a word outside the range. */
-static int32_t take(struct reader *r, int64_t low, int64_t high, int code)
+/* Reads a word that has to lie between low and high; the code given is for a word outside. False at a fault. */
+static bool read_word(struct reader *r, int32_t low, int32_t high, int code, int32_t *value)
 {
-    if (r->code != 0)
-        return 0;
-    if (r->next == r->words) {
-        refuse(r, 11, r->words);
-        return 0;
-    }
-    int32_t w = r->word[r->next];
-    if (w < low || w > high)
-        refuse(r, code, r->next);
+    if (r->next == r->words)
+        return refuse(r, 11, r->words);
+    *value = r->word[r->next];
+    if (*value < low || *value > high)
+        return refuse(r, code, r->next);
     r->next++;
-    return w;
+    return true;
 }
 
-static void read_sheet(struct reader *r, struct sheet *s, size_t room)
+static bool read_rule(struct reader *r, int32_t devices)
 {
-    if (r->words > MOST_WORDS) {
-        refuse(r, 17, MOST_WORDS);
-        return;
+    int32_t width, entry;
+    if (!read_word(r, 0, 32, 12, &width))
+        return false;
+    for (int e = 1; e <= width; e++) {
+        if (!read_word(r, -devices, devices, 14, &entry))
+            return false;
+        if (entry == 0)
+            return refuse(r, 14, r->next - 1);
     }
-    s->devices = take(r, 0, MOST_DEVICES, 12);
-    for (int v = 1; v <= s->devices && r->code == 0; v++)
-        s->cost[v] = take(r, 0, MOST_COST, 13);
-    s->rules = take(r, 0, MOST_RULES, 12);
-    for (int i = 0; i < s->rules && r->code == 0; i++) {
-        struct rule *u = &s->rule[i];
-        u->width = take(r, 0, MOST_WIDTH, 12);
-        for (int j = 0; j < u->width && r->code == 0; j++) {
-            u->entry[j] = take(r, -s->devices, s->devices, 14);
-            if (r->code == 0 && u->entry[j] == 0)
-                refuse(r, 14, r->next - 1);
-        }
+    return true;
+}
+
+/* The order: 17; the sheet from left to right; 15; 16. */
+static bool read_sheet(struct reader *r, struct sheet *s, size_t room)
+{
+    int32_t cost;
+    if (r->words > 16384)
+        return refuse(r, 17, 16384);
+    s->cost = r->word;
+    if (!read_word(r, 0, 200, 12, &s->devices))
+        return false;
+    for (int v = 1; v <= s->devices; v++)
+        if (!read_word(r, 0, 1000000000, 13, &cost))
+            return false;
+    if (!read_word(r, 0, 2000, 12, &s->rules))
+        return false;
+    for (int i = 0; i < s->rules; i++) {
+        s->rule[i] = r->word + r->next;
+        if (!read_rule(r, s->devices))
+            return false;
     }
-    if (r->code == 0 && r->next < r->words)
-        refuse(r, 15, r->next);
-    if (r->code == 0 && room < (size_t)s->devices)
-        refuse(r, 16, (size_t)s->devices);
+    if (r->next < r->words)
+        return refuse(r, 15, r->next);
+    if (room < (size_t)s->devices)
+        return refuse(r, 16, (size_t)s->devices);
+    return true;
 }
 
 /* ---- plans */
 
-static int device_of(int entry)
+/* The marks in the order of "better": free before held at 1, held at 1 before held at 0. */
+enum { FREE = 0, HELD_AT_1 = 1, HELD_AT_0 = 2 };
+
+struct plan {
+    unsigned char mark[201]; /* mark[v] for device v */
+};
+
+static int device_of(int32_t entry)
 {
-    return entry < 0 ? -entry : entry;
+    return entry > 0 ? entry : -entry;
 }
 
-static int position_of(int entry)
+static unsigned char mark_of(int32_t entry)
 {
-    return entry < 0 ? AT_0 : AT_1;
+    return entry > 0 ? HELD_AT_1 : HELD_AT_0;
 }
 
-static int meets_rule(const struct plan *p, const struct rule *u)
+static bool meets_rule(const struct plan *p, const int32_t *rule)
 {
-    for (int j = 0; j < u->width; j++)
-        if (p->mark[device_of(u->entry[j])] == position_of(u->entry[j]))
-            return 1;
-    return 0;
+    for (int e = 1; e <= rule[0]; e++)
+        if (p->mark[device_of(rule[e])] == mark_of(rule[e]))
+            return true;
+    return false;
 }
 
-static const struct rule *first_not_met(const struct sheet *s, const struct plan *p)
+/* NULL where the plan meets every rule. */
+static const int32_t *first_rule_not_met(const struct sheet *s, const struct plan *p)
 {
     for (int i = 0; i < s->rules; i++)
-        if (!meets_rule(p, &s->rule[i]))
-            return &s->rule[i];
+        if (!meets_rule(p, s->rule[i]))
+            return s->rule[i];
     return NULL;
 }
 
-static uint64_t cost_of(const struct sheet *s, const struct plan *p)
+static uint64_t cost(const struct sheet *s, const struct plan *p)
 {
     uint64_t sum = 0;
     for (int v = 1; v <= s->devices; v++)
@@ -122,119 +130,234 @@ static uint64_t cost_of(const struct sheet *s, const struct plan *p)
     return sum;
 }
 
-static uint64_t number_held(const struct sheet *s, const struct plan *p)
+static int held(const struct sheet *s, const struct plan *p)
 {
-    uint64_t held = 0;
+    int number = 0;
     for (int v = 1; v <= s->devices; v++)
-        held += p->mark[v] != FREE;
-    return held;
+        if (p->mark[v] != FREE)
+            number++;
+    return number;
+}
+
+/* The lowest-numbered device where two plans differ; 0 where they differ nowhere. */
+static int first_difference(const struct sheet *s, const struct plan *p, const struct plan *q)
+{
+    for (int v = 1; v <= s->devices; v++)
+        if (p->mark[v] != q->mark[v])
+            return v;
+    return 0;
+}
+
+static bool better(const struct sheet *s, const struct plan *p, const struct plan *q)
+{
+    if (cost(s, p) != cost(s, q))
+        return cost(s, p) < cost(s, q);
+    if (held(s, p) != held(s, q))
+        return held(s, p) < held(s, q);
+    int v = first_difference(s, p, q);
+    return v != 0 && p->mark[v] < q->mark[v];
 }
 
 /* ---- the walk */
 
 struct walk {
     const struct sheet *sheet;
-    uint32_t budget, count;
-    int stopped;
-    int found;
+    uint32_t budget, opened;
+    bool has_best;
     struct plan best;
     uint64_t by_number, by_marks;
 };
 
-/* Whether p is better than the best so far: the cost, then the number held, then the marks from device 1 on. */
-static int is_better(struct walk *w, const struct plan *p)
+/* Step 1, for a plan that meets every rule. */
+static void offer(struct walk *w, const struct plan *p)
 {
-    uint64_t cost = cost_of(w->sheet, p), best_cost = cost_of(w->sheet, &w->best);
-    if (cost != best_cost)
-        return cost < best_cost;
-    uint64_t held = number_held(w->sheet, p), best_held = number_held(w->sheet, &w->best);
-    if (held != best_held) {
-        w->by_number++;
-        return held < best_held;
-    }
-    for (int v = 1; v <= w->sheet->devices; v++)
-        if (p->mark[v] != w->best.mark[v]) {
+    const struct sheet *s = w->sheet;
+    if (w->has_best && cost(s, p) == cost(s, &w->best)) {
+        if (held(s, p) != held(s, &w->best))
+            w->by_number++;
+        else if (first_difference(s, p, &w->best) != 0)
             w->by_marks++;
-            return p->mark[v] < w->best.mark[v];
-        }
-    return 0;
+    }
+    if (!w->has_best || better(s, p, &w->best)) {
+        w->has_best = true;
+        w->best = *p;
+    }
 }
 
-static int is_closed(const struct walk *w, const struct plan *p)
+/* Step 2: whether the node is closed. */
+static bool is_closed(const struct walk *w, const struct plan *p)
 {
-    if (!w->found)
-        return 0;
-    uint64_t cost = cost_of(w->sheet, p), best_cost = cost_of(w->sheet, &w->best);
-    if (cost > best_cost)
-        return 1;
-    return cost == best_cost && number_held(w->sheet, p) + 1 > number_held(w->sheet, &w->best);
+    const struct sheet *s = w->sheet;
+    if (!w->has_best)
+        return false;
+    if (cost(s, p) > cost(s, &w->best))
+        return true;
+    return cost(s, p) == cost(s, &w->best) && held(s, p) + 1 > held(s, &w->best);
 }
 
-static void open_node(struct walk *w, struct plan p)
+static bool open_node(struct walk *w, const struct plan *p);
+
+/* Step 3: the entries of the rule as written; false when the walk is spent. */
+static bool open_entries(struct walk *w, const struct plan *p, const int32_t *rule)
 {
-    if (w->count == w->budget) {
-        w->stopped = 1;
-        return;
-    }
-    w->count++;
-    const struct rule *u = first_not_met(w->sheet, &p);
-    if (u == NULL) {
-        if (!w->found || is_better(w, &p)) {
-            w->found = 1;
-            w->best = p;
+    for (int e = 1; e <= rule[0]; e++)
+        if (p->mark[device_of(rule[e])] == FREE) {
+            struct plan child = *p;
+            child.mark[device_of(rule[e])] = mark_of(rule[e]);
+            if (!open_node(w, &child))
+                return false;
         }
-        return;
-    }
-    if (is_closed(w, &p))
-        return;
-    for (int j = 0; j < u->width && !w->stopped; j++) {
-        int v = device_of(u->entry[j]);
-        if (p.mark[v] != FREE)
-            continue;
-        struct plan child = p;
-        child.mark[v] = (unsigned char)position_of(u->entry[j]);
-        open_node(w, child);
-    }
+    return true;
 }
 
-/* ---- the answer */
+/* Opens a node and walks it to its end; false when the walk is spent. */
+static bool open_node(struct walk *w, const struct plan *p)
+{
+    if (w->opened == w->budget)
+        return false;
+    w->opened++;
+    const int32_t *rule = first_rule_not_met(w->sheet, p);
+    if (rule == NULL)
+        offer(w, p);
+    else if (!is_closed(w, p))
+        return open_entries(w, p, rule);
+    return true;
+}
+
+/* ---- the answer sheet of the search */
+
+static struct reference_answer short_answer(int code, uint64_t number)
+{
+    return (struct reference_answer){.number = {(uint64_t)code, number}, .numbers = 2};
+}
+
+static struct reference_answer least_answer(const struct sheet *s, const struct plan *best, uint32_t opened)
+{
+    struct reference_answer a = {.number = {0, cost(s, best), (uint64_t)held(s, best), opened}, .numbers = 4};
+    a.devices = s->devices;
+    for (int v = 1; v <= s->devices; v++)
+        a.plan[v - 1] = best->mark[v];
+    return a;
+}
 
 struct reference_answer reference(const int32_t *word, size_t words, uint32_t budget, size_t room)
 {
-    static struct sheet s;
+    struct reader r = {.word = word, .words = words};
+    struct sheet s;
+    if (!read_sheet(&r, &s, room))
+        return short_answer(r.code, r.place);
+    struct walk w = {.sheet = &s, .budget = budget};
+    struct plan first = {{FREE}};
+    bool spent = !open_node(&w, &first);
     struct reference_answer a;
-    struct reader r = {word, words, 0, 0, 0};
-    memset(&a, 0, sizeof a);
-    a.numbers = 2;
-    read_sheet(&r, &s, room);
-    if (r.code != 0) {
-        a.number[0] = (uint64_t)r.code;
-        a.number[1] = r.place;
-        return a;
-    }
-    struct walk w;
-    struct plan nothing_held;
-    memset(&w, 0, sizeof w);
-    memset(&nothing_held, 0, sizeof nothing_held);
-    w.sheet = &s;
-    w.budget = budget;
-    open_node(&w, nothing_held);
+    if (spent)
+        a = short_answer(2, w.opened);
+    else if (!w.has_best)
+        a = short_answer(1, w.opened);
+    else
+        a = least_answer(&s, &w.best, w.opened);
     a.by_number = w.by_number;
     a.by_marks = w.by_marks;
-    if (w.stopped) {
-        a.number[0] = 2;
-        a.number[1] = w.count;
-    } else if (!w.found) {
-        a.number[0] = 1;
-        a.number[1] = w.count;
-    } else {
-        a.numbers = 4;
-        a.number[0] = 0;
-        a.number[1] = cost_of(&s, &w.best);
-        a.number[2] = number_held(&s, &w.best);
-        a.number[3] = w.count;
-        a.devices = s.devices;
-        memcpy(a.plan, w.best.mark + 1, (size_t)s.devices);
-    }
     return a;
+}
+
+/* ---- sheets typed as text */
+
+/* The place of a token's first byte, and the place behind its last byte. */
+struct token {
+    size_t first, end;
+};
+
+static bool is_separator(unsigned char byte)
+{
+    return byte == 9 || byte == 10 || byte == 13 || byte == 32;
+}
+
+/* The whole extent of the next token from a place on; false where there is none. */
+static bool next_token(const unsigned char *text, size_t length, size_t from, struct token *t)
+{
+    t->first = from;
+    while (t->first < length && is_separator(text[t->first]))
+        t->first++;
+    t->end = t->first;
+    while (t->end < length && !is_separator(text[t->end]))
+        t->end++;
+    return t->first < length;
+}
+
+/* Where the first digit of a token should stand. */
+static size_t first_digit(const unsigned char *text, struct token t)
+{
+    return text[t.first] == '-' ? t.first + 1 : t.first;
+}
+
+/* The first place from there on where no digit stands; the token's end where all are digits. */
+static size_t first_other(const unsigned char *text, struct token t)
+{
+    size_t place = first_digit(text, t);
+    while (place < t.end && text[place] >= '0' && text[place] <= '9')
+        place++;
+    return place;
+}
+
+/* The value of a token of at most 10 digits. */
+static int64_t value(const unsigned char *text, struct token t)
+{
+    int64_t size = 0;
+    for (size_t place = first_digit(text, t); place < t.end; place++)
+        size = 10 * size + (text[place] - '0');
+    return text[t.first] == '-' ? -size : size;
+}
+
+/* The order: 23; then token by token, and for each token 21 over its whole length, then 22, then 24. */
+static struct reference_reading check_text(const unsigned char *text, size_t length, size_t room)
+{
+    size_t words = 0;
+    struct token t = {0, 0};
+    if (length > 60000)
+        return (struct reference_reading){23, 60000, 0};
+    while (next_token(text, length, t.end, &t)) {
+        if (first_other(text, t) < t.end || first_digit(text, t) == t.end)
+            return (struct reference_reading){21, first_other(text, t), 0};
+        if (t.end - first_digit(text, t) > 10 || value(text, t) < INT32_MIN || value(text, t) > INT32_MAX)
+            return (struct reference_reading){22, t.first, 0};
+        if (words == room)
+            return (struct reference_reading){24, t.first, 0};
+        words++;
+    }
+    return (struct reference_reading){0, 0, words};
+}
+
+/* Nothing is written before the whole text has been checked. */
+struct reference_reading reference_read(const unsigned char *text, size_t length, int32_t *word, size_t room)
+{
+    struct reference_reading reading = check_text(text, length, room);
+    struct token t = {0, 0};
+    for (size_t i = 0; i < reading.words; i++) {
+        next_token(text, length, t.end, &t);
+        word[i] = (int32_t)value(text, t);
+    }
+    return reading;
+}
+
+/* ---- what leastplan prints */
+
+static int print_least(const struct reference_answer *a, char *to)
+{
+    int bytes = sprintf(to, "least %" PRIu64 " %" PRIu64 " %" PRIu64 "\nhold", a->number[1], a->number[2], a->number[3]);
+    for (int v = 1; v <= a->devices; v++)
+        if (a->plan[v - 1] != FREE)
+            bytes += sprintf(to + bytes, " %d", a->plan[v - 1] == HELD_AT_1 ? v : -v);
+    return bytes + sprintf(to + bytes, "\n");
+}
+
+size_t reference_print(const struct reference_answer *a, char *to)
+{
+    if (a->number[0] == 0)
+        return (size_t)print_least(a, to);
+    if (a->number[0] == 1)
+        return (size_t)sprintf(to, "none %" PRIu64 "\n", a->number[1]);
+    if (a->number[0] == 2)
+        return (size_t)sprintf(to, "spent %" PRIu64 "\n", a->number[1]);
+    return (size_t)sprintf(to, "refused %" PRIu64 " %" PRIu64 "\n", a->number[0], a->number[1]);
 }

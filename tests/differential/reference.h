@@ -1,19 +1,35 @@
-/* The answer to a hall sheet, by the reference. */
+/* The answers of document 01, by the reference. */
 #ifndef REFERENCE_H
 #define REFERENCE_H
 
 #include <stddef.h>
 #include <stdint.h>
 
+/* The answer to a hall sheet. */
 struct reference_answer {
-    uint64_t number[4];    /* the code, then what is returned */
-    int numbers;           /* how many of them there are: 4 for code 0, else 2 */
-    int devices;           /* code 0: the length of the plan */
+    uint64_t number[4];      /* the code, then what is returned, in the order of the document's table */
+    int numbers;             /* how many of them there are: 4 for code 0, else 2 */
+    int devices;             /* code 0: the length of the plan; else 0 */
     unsigned char plan[200]; /* code 0: 0 free, 1 held at 1, 2 held at 0 */
     /* of a search: how often two plans of equal cost were told apart by the held number, and by the marks */
     uint64_t by_number, by_marks;
 };
 
+/* A sheet of so many words, under a budget, with a plan room of so many bytes. */
 struct reference_answer reference(const int32_t *word, size_t words, uint32_t budget, size_t room);
+
+/* What the reader of typed text comes to. */
+struct reference_reading {
+    int code;     /* 0, or 21 to 24 */
+    size_t place; /* of a refusal */
+    size_t words; /* code 0: how many words there are */
+};
+
+/* Reads a text of so many bytes into a room for so many words, which a refusal leaves unchanged. */
+struct reference_reading reference_read(const unsigned char *text, size_t length, int32_t *word, size_t room);
+
+/* What leastplan prints for an answer, or for a refusal of either table (its code and place as the answer's two numbers);
+   returns the number of bytes. */
+size_t reference_print(const struct reference_answer *a, char *to);
 
 #endif

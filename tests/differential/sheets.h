@@ -1,0 +1,23 @@
+/* Sheets to compare on, good and damaged. */
+#ifndef SHEETS_H
+#define SHEETS_H
+
+#include <stddef.h>
+#include <stdint.h>
+
+enum { MOST_WORDS = 16384, WORDS = MOST_WORDS + 64 };
+
+struct sheet {
+    int32_t word[WORDS];
+    char is[WORDS]; /* what each word is: n, c, m, w or e for device count, cost, rule count, width, entry; x for anything */
+    size_t words;
+    int devices;
+    size_t room;
+};
+
+void any_sheet(struct sheet *s);
+void random_words(struct sheet *s); /* words that follow no plan */
+void doubling_sheet(struct sheet *s, int rules); /* a walk of 2^(rules + 1) - 1 nodes */
+void damage_sheet(struct sheet *s);
+
+#endif
