@@ -1,1 +1,2 @@
+-- What the contract of the exported search says.
 pub mod Exported

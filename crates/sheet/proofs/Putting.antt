@@ -1,5 +1,7 @@
--- Writing the rules, rule by rule: what holds before each of them (`Putting`), from the first (`putting-start`) over each (`putting-more`)
--- to the end (`putting-end`). Assumes nothing.
+-- Writing the rules, rule by rule.
+--
+-- In order: what holds before each rule (`Putting`), from the first on (`putting-start`); a start fits its array's type (`putting-small`); the
+-- rule at hand has room (`putting-room`); over it to the next (`putting-more`); the end (`putting-end`). Assumes nothing.
 use mathlib.Core.Path.{_≡_, _∙_, ap, subst}
 use mathlib.Core.List.{List}
 use Prim.Native.Nat.{ℕ, _+_, _-_, _≤_, _<_}
@@ -9,7 +11,7 @@ use lib.ListN.{set}
 use lib.Seq.{sets}
 use lib.IntN.{ℤ}
 use Rattle.sheet.specs.Word.{valueAt, codesFrom}
-use Rattle.sheet.specs.Placed.{codesIn, startsIn, RulesStand, RulesPut}
+use Rattle.sheet.specs.Placed.{codesIn, startsIn, RulesStand, CodesRoom, RulesPut}
 use Rattle.sheet.proofs.Placing.{codes-more, codes-end, starts-more, starts-end}
 use Rattle.sheet.proofs.Standing.{NextRule, next-rule}
 
@@ -28,9 +30,22 @@ putting-start n ws m codes starts s = rw-left (sub-zero m)
     rw-left e = record { stands = rw e s; near = omega arith; within = omega arith; codes-left = rw e; starts-left = rw e }
 
 module _ {n : ℕ} {ws : List ℤ} {m : ℕ} {codes₀ starts₀ codes starts : List ℕ} {place first r : ℕ} (p : Putting n ws m codes₀ starts₀ codes starts place first r) where
-  -- the rule at hand has room, on the sheet and in the codes
-  pub putting-next : r < m → NextRule n ws place (m - r)
-  putting-next l = next-rule n ws place (m - r) (p .stands) (λ (z : m - r ≡ 0). omega arith)
+  pub putting-small : first ≤ 16384
+  putting-small =
+      let near = p .near in
+      let inside = p .stands .inside in
+      let short = p .stands .short in
+      omega arith
+
+  next : r < m → NextRule n ws place (m - r)
+  next l = next-rule n ws place (m - r) (p .stands) (λ (z : m - r ≡ 0). omega arith)
+
+  pub putting-room : r < m → (w : ℕ) → w ≡ valueAt ws place → CodesRoom (place + 1) w n first
+  putting-room l w e =
+      let near = p .near in
+      let short = p .stands .short in
+      let room = next l .room in
+      record { devices = p .stands .devices; short = omega arith; room = omega arith }
 
   pub putting-more : r < m → (w : ℕ) (codes′ : List ℕ) → w ≡ valueAt ws place → codes′ ≡ sets codes first (codesFrom n ws (place + 1) w)
       → Putting n ws m codes₀ starts₀ codes′ (set starts r first) (place + 1 + w) (first + w) (r + 1)
@@ -39,7 +54,7 @@ module _ {n : ℕ} {ws : List ℤ} {m : ℕ} {codes₀ starts₀ codes starts : 
       let less : m - r - 1 ≡ m - (r + 1) = omega arith in
       let k = p .near in
       record {
-        stands = subst (λ (i : ℕ). RulesStand n ws (place + 1 + w) i) less (rw e (putting-next l .stands));
+        stands = subst (λ (i : ℕ). RulesStand n ws (place + 1 + w) i) less (rw e (next l .stands));
         near = omega arith;
         within = l′;
         codes-left = subst (λ (i : ℕ). sets codes′ (first + w) (codesIn n ws (place + 1 + w) i) ≡ sets codes₀ 0 (codesIn n ws (n + 2) m)) less (codes-more n ws place (m - r) first w codes codes′ _ more e put (p .codes-left));

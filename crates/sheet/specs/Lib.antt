@@ -1,3 +1,4 @@
+-- What the contracts of the reader say, to be read in this order.
 pub mod Coded
 pub mod Word
 pub mod Check

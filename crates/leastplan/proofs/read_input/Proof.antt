@@ -1,3 +1,4 @@
+-- `read_input` meets its contract: no part that is read goes beyond the room (`part-within`). Assumes the contract of libc's `read`.
 use Rattle.leastplan.proofs.Inputs.{part-within}
 use native.Mathlib.Omega.{arith}
 use mathlib.Core.Path.{_≡_}

@@ -1,3 +1,5 @@
+-- `answer` meets its contract: a text that is refused (`replies-refused`), or one whose words are searched and whose answer is printed
+-- (`replies-found`). Assumes nothing.
 use Rattle.reply.proofs.Replies.{read-within, replies-refused, replies-found}
 use borrow.Author.Needs.{needs}
 use Rattle.reply.proofs.answer.Statement.{statement}

@@ -1,3 +1,4 @@
+-- `print_answer` meets its contract: for each case its lines fit (Lengths) and are the definition's (Prints). Assumes nothing.
 use Rattle.reply.proofs.Lengths.{none-fits, spent-fits, least-fits, hold-fits}
 use Rattle.reply.proofs.Prints.{prints-least, prints-none, prints-spent, prints-refused}
 use borrow.Author.Needs.{needs}

@@ -1,3 +1,4 @@
+-- `read` meets its contract: a refusal is the check's, and a good sheet's hall lies in the arrays (Decoding). Assumes nothing.
 use Rattle.sheet.proofs.Decoding.{read-refused, accepted-few, accepted-rules, read-hall}
 use borrow.Author.Needs.{needs}
 use Rattle.sheet.proofs.read.Statement.{statement}

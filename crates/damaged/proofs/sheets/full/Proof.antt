@@ -1,3 +1,4 @@
+-- `full` is proved: every place that it writes lies in the array. Assumes nothing.
 use Prim.Native.Nat.{_-_}
 use borrow.Author.Needs.{needs}
 use Rattle.damaged.proofs.sheets.full.Statement.{statement}

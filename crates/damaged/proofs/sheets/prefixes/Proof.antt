@@ -1,3 +1,4 @@
+-- `prefixes` is proved: each prefix lies in the sheet, and the next one is longer. Assumes the contract of libc's `write`.
 use Prim.Native.Nat.{_-_}
 use borrow.Author.Needs.{needs}
 use Rattle.damaged.proofs.sheets.prefixes.Statement.{statement}

@@ -1,3 +1,4 @@
+-- `replacements` is proved: each word replaced lies in the sheet, and each word put there in the list of them. Assumes the contract of libc's `write`.
 use Prim.Native.Nat.{_-_}
 use borrow.Author.Needs.{needs}
 use Rattle.damaged.proofs.sheets.replacements.Statement.{statement}

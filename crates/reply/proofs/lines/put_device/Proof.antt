@@ -1,3 +1,4 @@
+-- `put_device` meets its contract: an entry for a mark of 1 or 2, nothing for any other mark (Items). Assumes nothing.
 use Rattle.reply.proofs.Items.{room-1, room-2, puts-1, puts-2, puts-none}
 use borrow.Author.Needs.{needs}
 use Rattle.reply.proofs.lines.put_device.Statement.{statement}

@@ -1,3 +1,4 @@
+-- `put_devices` meets its contract: the entries of the held devices, one after the other (Items, Putting). Assumes nothing.
 use Prim.Native.Nat.{_-_}
 use lib.ListN.{take, drop}
 use Rattle.hall.specs.Order.{heldFrom, heldEntries}

@@ -1,3 +1,4 @@
+-- `put_hold` meets its contract: the word, the entries, the end of the line (`line-puts`). Assumes nothing.
 use Rattle.reply.proofs.Putting.{word-room, items-room, close-room, line-puts}
 use borrow.Author.Needs.{needs}
 use Rattle.reply.proofs.lines.put_hold.Statement.{statement}

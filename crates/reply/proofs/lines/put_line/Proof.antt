@@ -1,3 +1,4 @@
+-- `put_line` meets its contract: the word, the numbers, the end of the line (`line-puts`). Assumes nothing.
 use Rattle.reply.proofs.Putting.{word-room, items-room, close-room, line-puts}
 use Rattle.reply.proofs.lines.put_line.Statement.{statement}
 use Rattle.reply.proofs.lines.put_line.Tie as tie

@@ -1,3 +1,4 @@
+-- `put_numbers` meets its contract: each number behind a blank, one after the other (Items, Putting). Assumes nothing.
 use Prim.Native.Nat.{_-_}
 use lib.ListN.{length, drop}
 use Rattle.typed.specs.Printing.{digitsOf}

@@ -1,3 +1,4 @@
+-- `put_refused` meets its contract: its line fits the room (`refused-fits`). Assumes nothing.
 use Rattle.reply.proofs.Lengths.{refused-fits}
 use borrow.Author.Needs.{needs}
 use Rattle.reply.proofs.lines.put_refused.Statement.{statement}

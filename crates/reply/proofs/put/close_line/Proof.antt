@@ -1,3 +1,4 @@
+-- `close_line` meets its contract: byte 10 is put. Assumes nothing.
 use borrow.Author.Needs.{needs}
 use Rattle.reply.proofs.put.close_line.Statement.{statement}
 use Rattle.reply.proofs.put.close_line.Tie as tie

@@ -1,3 +1,4 @@
+-- `put` meets its contract: byte by byte, from a place on (Putting). Assumes nothing.
 use Prim.Native.Nat.{_+_, _-_}
 use mathlib.Core.Path.{_≡_}
 use lib.ListN.{length, drop}

@@ -1,3 +1,4 @@
+-- `put_number` meets its contract: what stands in front, then the digits (`number-puts`). Assumes nothing.
 use Rattle.reply.proofs.Putting.{front-room, digits-room, number-puts}
 use borrow.Author.Needs.{needs}
 use Rattle.reply.proofs.put.put_number.Statement.{statement}

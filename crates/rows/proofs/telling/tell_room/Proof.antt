@@ -1,3 +1,4 @@
+-- `tell_room` is proved: each byte told lies in the room. Assumes the contract of libc's `write`.
 use Prim.Native.Nat.{_-_}
 use lib.ListN.{length}
 use borrow.Author.Needs.{needs}

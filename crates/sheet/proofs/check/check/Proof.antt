@@ -1,3 +1,4 @@
+-- `check` meets its contract: each of its eight ways out is the decoder's (Whole). Assumes nothing.
 use Rattle.sheet.proofs.Counts.{count-small, count-next}
 use Rattle.sheet.proofs.Whole.{long-sheet, devices-bad, costs-bad, count-bad-too, rules-refused, words-behind, small-room, good-sheet}
 use borrow.Author.Needs.{needs}

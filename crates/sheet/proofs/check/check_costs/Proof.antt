@@ -1,3 +1,4 @@
+-- `check_costs` meets its contract: a run of costs, one after the other (Runs). Assumes nothing.
 use mathlib.Core.Path.{_≡_, refl}
 use Rattle.hall.specs.Reading.{upTo, times, cost}
 use Rattle.sheet.specs.Check.{stepOf}

@@ -1,3 +1,4 @@
+-- `check_entries` meets its contract: a run of entries, one after the other (Runs). Assumes nothing.
 use mathlib.Core.Path.{_≡_, refl}
 use Rattle.hall.specs.Reading.{times, entry}
 use Rattle.sheet.specs.Word.{codeIn}

@@ -1,3 +1,4 @@
+-- `check_rule` meets its contract: a width, then the run of its entries (Counts). Assumes nothing.
 use Rattle.sheet.proofs.Counts.{count-got, rule-bad, rule-on}
 use borrow.Author.Needs.{needs}
 use Rattle.sheet.proofs.check.check_rule.Statement.{statement}

@@ -1,3 +1,4 @@
+-- `check_rules` meets its contract: a run of rules, one after the other (Counts, Runs). Assumes nothing.
 use mathlib.Core.Path.{_≡_, refl}
 use Rattle.hall.specs.Reading.{times, rule}
 use Rattle.sheet.specs.Check.{stepOf}

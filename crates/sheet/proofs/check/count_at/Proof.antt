@@ -1,3 +1,4 @@
+-- `count_at` meets its contract: what is told of the word is told of the count (Counts). Assumes nothing.
 use Rattle.sheet.proofs.Counts.{count-is, count-outside, count-missing}
 use borrow.Author.Needs.{needs}
 use Rattle.sheet.proofs.check.count_at.Statement.{statement}

@@ -1,3 +1,4 @@
+-- `put_costs` meets its contract: cost by cost, from the front (Placing). Assumes nothing.
 use Prim.Native.Nat.{_+_, _-_}
 use mathlib.Core.Path.{_≡_}
 use native.Mathlib.Nat.{sub-zero}

@@ -1,3 +1,4 @@
+-- `put_entries` meets its contract: code by code, from a place on (Placing). Assumes nothing.
 use Prim.Native.Nat.{_+_, _-_}
 use mathlib.Core.Path.{_≡_}
 use native.Mathlib.Nat.{sub-zero, add-zero}

@@ -1,6 +1,7 @@
-use Prim.Native.Nat.{_-_}
-use native.Mathlib.Omega.{arith}
-use Rattle.sheet.proofs.Putting.{Putting, putting-start, putting-next, putting-more, putting-end}
+-- `put_rules` meets its contract: rule by rule its start and its codes, then the end of the last (Putting). Assumes nothing.
+use Prim.Native.Nat.{_+_, _-_}
+use Rattle.sheet.specs.Placed.{CodesRoom}
+use Rattle.sheet.proofs.Putting.{Putting, putting-start, putting-small, putting-room, putting-more, putting-end}
 use borrow.Author.Needs.{needs}
 use Rattle.sheet.proofs.coding.put_rules.Statement.{statement}
 use Rattle.sheet.proofs.coding.put_rules.Tie as tie
@@ -14,6 +15,10 @@ Inv-loop words n m codes₀ starts₀ place₀ first₀ r₀ codes starts place 
 abbrev μ-loop : tie.MeasureT-loop
 μ-loop words n m codes₀ starts₀ place₀ first₀ r₀ codes starts place first r = m - r
 
+-- The rule at hand has room, on the sheet and in the codes.
+at-hand : (k : tie.After-value-at Inv-loop μ-loop) → CodesRoom (k .before .before .loop .place + 1) (k .value-at .result) (k .before .before .before .args .n) (k .before .before .loop .first)
+at-hand k = putting-room (k .before .before .loop .inv) (k .before .loop-test .taken) _ (k .value-at .ensures)
+
 add-place : tie.Need-add-place Inv-loop μ-loop
 add-place c = let few = c .pre .devices in search needs
 
@@ -21,14 +26,7 @@ loop-holds : tie.Need-loop-holds Inv-loop μ-loop
 loop-holds c = putting-start _ _ _ _ _ (c .pre)
 
 cast-starts : tie.Need-cast-starts Inv-loop μ-loop
-cast-starts c =
-    let l = c .before in
-    let p = l .loop .inv in
-    let near = p .near in
-    let s = p .stands in
-    let inside = s .inside in
-    let short = s .short in
-    search needs
+cast-starts c = let small = putting-small (c .before .loop .inv) in search needs
 
 mul-starts : tie.Need-mul-starts Inv-loop μ-loop
 mul-starts c = search needs
@@ -43,73 +41,22 @@ cast-width : tie.Need-cast-width Inv-loop μ-loop
 cast-width c = search needs
 
 add-put-entries : tie.Need-add-put-entries Inv-loop μ-loop
-add-put-entries c =
-    let t = c .before in
-    let l = t .before in
-    let p = l .loop .inv in
-    let x = putting-next p (t .loop-test .taken) in
-    let near = p .near in
-    let short = p .stands .short in
-    let narrow = x .narrow in
-    let room = x .room in
-    let w = c .value-at .ensures in
-    search needs
+add-put-entries c = let room = at-hand c in search needs
 
 cast-put-entries : tie.Need-cast-put-entries Inv-loop μ-loop
 cast-put-entries c = search needs
 
 put-entries-requires : tie.Need-put-entries-requires Inv-loop μ-loop
-put-entries-requires c κs =
-    let t = c .before .before in
-    let l = t .before in
-    let p = l .loop .inv in
-    let x = putting-next p (t .loop-test .taken) in
-    let near = p .near in
-    let short = p .stands .short in
-    let narrow = x .narrow in
-    let room = x .room in
-    let w = c .before .value-at .ensures in
-    let few = p .stands .devices in
-    record { devices = few; short = omega arith; room = omega arith }
+put-entries-requires c κs = at-hand (c .before)
 
 add-place-2 : tie.Need-add-place-2 Inv-loop μ-loop
-add-place-2 c =
-    let t = c .before .before .before in
-    let l = t .before in
-    let p = l .loop .inv in
-    let x = putting-next p (t .loop-test .taken) in
-    let near = p .near in
-    let short = p .stands .short in
-    let narrow = x .narrow in
-    let room = x .room in
-    let w = c .before .before .value-at .ensures in
-    search needs
+add-place-2 c = let room = at-hand (c .before .before) in search needs
 
 add-place-3 : tie.Need-add-place-3 Inv-loop μ-loop
-add-place-3 c =
-    let t = c .before .before .before in
-    let l = t .before in
-    let p = l .loop .inv in
-    let x = putting-next p (t .loop-test .taken) in
-    let near = p .near in
-    let short = p .stands .short in
-    let narrow = x .narrow in
-    let room = x .room in
-    let w = c .before .before .value-at .ensures in
-    search needs
+add-place-3 c = let room = at-hand (c .before .before) in search needs
 
 add-first : tie.Need-add-first Inv-loop μ-loop
-add-first c =
-    let t = c .before .before .before in
-    let l = t .before in
-    let p = l .loop .inv in
-    let x = putting-next p (t .loop-test .taken) in
-    let near = p .near in
-    let short = p .stands .short in
-    let narrow = x .narrow in
-    let room = x .room in
-    let w = c .before .before .value-at .ensures in
-    search needs
+add-first c = let room = at-hand (c .before .before) in search needs
 
 add-r : tie.Need-add-r Inv-loop μ-loop
 add-r c = search needs
@@ -123,14 +70,7 @@ loop-again c =
     putting-more (t .before .loop .inv) (t .loop-test .taken) _ _ (c .before .before .value-at .ensures) (c .put-entries .ensures)
 
 cast-starts-2 : tie.Need-cast-starts-2 Inv-loop μ-loop
-cast-starts-2 c =
-    let l = c .before in
-    let p = l .loop .inv in
-    let near = p .near in
-    let s = p .stands in
-    let inside = s .inside in
-    let short = s .short in
-    search needs
+cast-starts-2 c = let small = putting-small (c .before .loop .inv) in search needs
 
 mul-starts-2 : tie.Need-mul-starts-2 Inv-loop μ-loop
 mul-starts-2 c = search needs

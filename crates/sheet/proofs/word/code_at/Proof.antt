@@ -1,3 +1,4 @@
+-- `code_at` meets its contract: the code that `entry_at` tells, 0 where it tells none (Items). Assumes nothing.
 use native.Mathlib.Omega.{arith}
 use lib.ListN.{getElem?}
 use Rattle.sheet.proofs.Items.{code-is, code-outside, code-missing, code-small}

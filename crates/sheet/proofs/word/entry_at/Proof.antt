@@ -1,3 +1,4 @@
+-- `entry_at` meets its contract: by the sign of the word, and whether it is 0 or beyond the devices (Items). Assumes nothing.
 use Rattle.sheet.proofs.Items.{entry-zero, entry-at1, entry-beyond, entry-at0, entry-below, item-missing}
 use borrow.Author.Needs.{needs}
 use Rattle.sheet.proofs.word.entry_at.Statement.{statement}

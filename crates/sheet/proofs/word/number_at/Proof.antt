@@ -1,3 +1,4 @@
+-- `number_at` meets its contract: by the sign of the word, and whether it is beyond the most (Items). Assumes nothing.
 use Rattle.sheet.proofs.Items.{number-in, number-beyond, number-below, item-missing}
 use borrow.Author.Needs.{needs}
 use Rattle.sheet.proofs.word.number_at.Statement.{statement}

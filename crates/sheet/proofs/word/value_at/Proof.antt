@@ -1,3 +1,4 @@
+-- `value_at` meets its contract: the number itself, 0 where there is none (Items). Assumes nothing.
 use Rattle.sheet.proofs.Items.{value-up, value-down, value-missing}
 use borrow.Author.Needs.{needs}
 use Rattle.sheet.proofs.word.value_at.Statement.{statement}
