@@ -6,7 +6,8 @@ ghost use Rattle.exported.specs.Exported.{Searches};
 ghost use Rattle.reply.specs.Contract.{Replies};
 use search::Answer;
 
-// 01, "The answer sheet of the search": the least plan of a sheet, under a budget of trial plans; its marks go to the front of the room, its numbers to `numbers`.
+// 01, "The answer sheet of the search": the least plan of a sheet, under a budget of trial plans; its marks go to the front of the
+// room, its numbers to `numbers`.
 #[no_mangle]
 pub extern "C" fn leastplan_search(
     words: &[i32],

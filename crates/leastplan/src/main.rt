@@ -19,6 +19,7 @@ fn no_bytes() -> [u8; 60001]
     [0u8; 60001]
 }
 
+// Room for any reply.
 fn no_lines() -> [u8; 1024]
     ensures { λ r. ⌜ length r ≡ 1024 ⌝ }
 {
@@ -57,6 +58,7 @@ fn read_input(room: &mut [u8]) -> Input
     Input::Bytes(n)
 }
 
+// Reads, answers and writes, and does nothing else.
 fn main() {
     let mut text = no_bytes();
     match read_input(&mut text) {

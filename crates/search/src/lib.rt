@@ -25,18 +25,21 @@ pub enum Answer {
     Refused(Refusal, usize),
 }
 
+// Room for the costs of any hall.
 fn no_costs() -> [u32; 200]
     ensures { λ r. ⌜ r ≡ replicate 200 0 ⌝ }
 {
     [0u32; 200]
 }
 
+// Room for the entries of any sheet.
 fn no_codes() -> [u16; 16384]
     ensures { λ r. ⌜ r ≡ replicate 16384 0 ⌝ }
 {
     [0u16; 16384]
 }
 
+// Room for the starts of all rules, and the end of the last.
 fn no_starts() -> [u16; 2001]
     ensures { λ r. ⌜ r ≡ replicate 2001 0 ⌝ }
 {

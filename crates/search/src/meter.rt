@@ -3,6 +3,7 @@
 ghost use mathlib.Core.Path.{_≡_};
 ghost use Rattle.search.specs.Meter.{admit};
 
+// The budget, and the nodes counted so far.
 pub(crate) struct Meter {
     pub(crate) budget: u32,
     pub(crate) count: u32,

@@ -7,6 +7,7 @@ ghost use Rattle.sheet.specs.Placed.{RulesStand, CodesRoom, RulesPut};
 use crate::word::code_at;
 use crate::word::value_at;
 
+// The costs, device 1 first.
 pub(crate) fn put_costs(words: &[i32], n: usize, costs: &mut [u32; 200])
     requires { ⌜ n ≤ 200 ⌝ }
     ensures { λ _. ⌜ now (costs .exit) ≡ sets (now (costs .entry)) 0 (numbersFrom (now (words .entry)) 1 n) ⌝ }
@@ -18,6 +19,7 @@ pub(crate) fn put_costs(words: &[i32], n: usize, costs: &mut [u32; 200])
     }
 }
 
+// The entries of one rule, as codes.
 pub(crate) fn put_entries(
     words: &[i32],
     at: usize,

@@ -19,6 +19,7 @@ pub(crate) enum Item {
     Missing,
 }
 
+// A word with its sign split off.
 pub(crate) fn word_at(words: &[i32], at: usize) -> Word
     ensures { λ r. ⌜ r ≡ wordOf (getElem? (now (words .entry)) at) ⌝ }
 {

@@ -5,6 +5,7 @@ ghost use lib.ListN.{length};
 ghost use Rattle.typed.specs.Text.{isSeparator, inToken, isDigit, digitsIn};
 ghost use Rattle.typed.specs.Steps.{Passes};
 
+// 01, "separated by one or more of the bytes 9, 10, 13 and 32".
 fn is_separator(b: u8) -> bool
     ensures { λ r. ⌜ r ≡ isSeparator b ⌝ }
 {
@@ -20,6 +21,7 @@ fn is_separator(b: u8) -> bool
     b == 32
 }
 
+// The digits are the bytes 48 to 57.
 fn is_digit(b: u8) -> bool
     ensures { λ r. ⌜ r ≡ isDigit b ⌝ }
 {

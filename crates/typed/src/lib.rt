@@ -13,6 +13,7 @@ mod words;
 use words::fill;
 use words::scan;
 
+// The kinds of mistake, in the table's order.
 pub enum Mistake {
     WrongByte,
     BadNumber,
@@ -20,6 +21,7 @@ pub enum Mistake {
     NoRoom,
 }
 
+// What a text is read as: so many words; or a mistake and its place.
 pub enum Reading {
     Words(usize),
     Refused(Mistake, usize),

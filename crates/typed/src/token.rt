@@ -7,11 +7,13 @@ ghost use Rattle.typed.specs.Steps.{fitted, Behind, asRead};
 use crate::Mistake;
 use crate::bytes::digits_in;
 
+// A signed number as a word, if it is one.
 enum Signed {
     Fits(i32),
     Beyond,
 }
 
+// What a token says: a word; or a mistake and its place.
 pub(crate) enum Said {
     Word(i32),
     Mistaken(Mistake, usize),

@@ -12,6 +12,7 @@ use crate::bytes::token_end;
 use crate::token::Said;
 use crate::token::said_by;
 
+// What comes next: the text's end; a word with the places where its token starts and ends; or a mistake and its place.
 enum Next {
     End,
     Found(i32, usize, usize),
