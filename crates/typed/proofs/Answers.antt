@@ -15,7 +15,7 @@ use lib.IntN.{ℤ}
 use lib.Dec.{eqb}
 use borrow.Author.Tests.{lt-ltb, le-ltb}
 use Rattle.typed.specs.Text.{codeOf, Read, refused, got, tokens, wordsOf, readText}
-use Rattle.typed.specs.Answer.{answered, numbers, roomAfter, Reads}
+use Rattle.typed.specs.Answer.{answered, numbersOf, roomAfter, Reads}
 use Rattle.typed.specs.Steps.{Taken}
 use Rattle.typed.specs.declared.Mistake.{Mistake}
 use Rattle.typed.specs.declared.Mistake.the-variants.{WrongByte, BadNumber, TooLong, NoRoom}
@@ -34,7 +34,7 @@ beyond text room h = rw (lt-ltb 60000 (length text) h)
 pub too-long : {text : List ℕ} {before : List ℤ} → 60000 < length text → Reads text before (Refused TooLong 60000) before
 too-long {text} {before} h =
     let e = beyond text (length before) h in
-    record { says = ap (λ (x : Read (List ℤ)). numbers (answered x)) e; room = ap (λ (x : Read (List ℤ)). roomAfter x before) e }
+    record { says = ap (λ (x : Read (List ℤ)). numbersOf (answered x)) e; room = ap (λ (x : Read (List ℤ)). roomAfter x before) e }
 
 -- where the answer is a number of words, they were read; where it is a refusal, the room is as it was
 taken : (x : Read (List ℤ)) {w : ℕ} → Words w ≡ answered x → (words : List ℤ) × (x ≡ got words)
@@ -54,7 +54,7 @@ module _ {text : List ℕ} (h : length text ≤ 60000) where
   answers {before} q e room =
       let i = within text (length before) h in
       record {
-        says = ap numbers (sym e ∙ q ∙ ap answered i);
+        says = ap numbersOf (sym e ∙ q ∙ ap answered i);
         room = room ∙ ap (λ (x : Read (List ℤ)). roomAfter x before) i;
       }
 
@@ -82,7 +82,7 @@ code-some BadNumber = omega arith
 code-some TooLong = omega arith
 code-some NoRoom = omega arith
 
-pub numbers-injective : (r s : Reading) → numbers r ≡ numbers s → r ≡ s
+pub numbers-injective : (r s : Reading) → numbersOf r ≡ numbersOf s → r ≡ s
 numbers-injective (Words w) (Words v) e = let z : w ≡ v = cc in ap Words z
 numbers-injective (Words w) (Refused m place) e = absurd (let z : 0 ≡ codeOf m = cc in omega (arith, code-some m))
 numbers-injective (Refused m place) (Words w) e = absurd (let z : 0 ≡ codeOf m = cc in omega (arith, code-some m))
@@ -92,7 +92,7 @@ numbers-injective (Refused m i) (Refused n j) e =
     let k = code-injective m n c in
     cc
 
-pub told-injective : (before : List ℤ) (x y : Read (List ℤ)) → numbers (answered x) ≡ numbers (answered y)
+pub told-injective : (before : List ℤ) (x y : Read (List ℤ)) → numbersOf (answered x) ≡ numbersOf (answered y)
     → roomAfter x before ≡ roomAfter y before → x ≡ y
 told-injective before x y e f = go x y (numbers-injective (answered x) (answered y) e) f
   where

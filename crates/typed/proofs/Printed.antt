@@ -15,7 +15,7 @@ use lib.IntN.{ℤ, pos, negsuc, negℤ}
 use lib.Dec.{ltb, lit<}
 use borrow.Author.Tests.{ltb-true, ltb-false, le-leb}
 use Rattle.typed.specs.Text.{Read, got, isSeparator, isDigit, decimal, readText}
-use Rattle.typed.specs.Answer.{answered, numbers, roomAfter, Reads}
+use Rattle.typed.specs.Answer.{answered, numbersOf, roomAfter, Reads}
 use Rattle.typed.specs.Allowed.{Each, InRange, Allowed, nothing, word, Spells, ended, last}
 use Rattle.typed.specs.Printing.{digitsBy, digitsOf, printedWord, printed, AllInRange}
 use Rattle.typed.specs.declared.Reading.{Reading}
@@ -141,5 +141,5 @@ pub printed-back : (words before : List ℤ) {r : Reading} {after : List ℤ} �
     → Reads (printed words) before r after → (r ≡ Words (length words)) × (after ≡ words ++ drop (length words) before)
 printed-back words before {r} h short fits x =
     let e = printed-reads words (length before) h short fits in
-    let told = x .says ∙ ap (λ (y : Read (List ℤ)). numbers (answered y)) e in
+    let told = x .says ∙ ap (λ (y : Read (List ℤ)). numbersOf (answered y)) e in
     (numbers-injective r (Words (length words)) told, x .room ∙ ap (λ (y : Read (List ℤ)). roomAfter y before) e)

@@ -8,7 +8,7 @@ use Prim.Native.Nat.{ℕ, zero, suc}
 use lib.ListN.{length, replicate}
 use lib.IntN.{ℤ, pos, negsuc}
 use Rattle.typed.specs.Text.{readText}
-use Rattle.typed.specs.Answer.{answered, numbers, roomAfter}
+use Rattle.typed.specs.Answer.{answered, numbersOf, roomAfter}
 
 -- the paper's numbers for the answer, and the room afterwards
 pub record Outcome : Type 0 where
@@ -23,7 +23,7 @@ pub record Row : Type 0 where
 -- what the definitions say for a row
 unfoldable pub outcome : Row → Outcome
 outcome r = record {
-  told = numbers (answered (readText (r .text) (length (r .before))));
+  told = numbersOf (answered (readText (r .text) (length (r .before))));
   room = roomAfter (readText (r .text) (length (r .before))) (r .before);
 }
 

@@ -1,0 +1,124 @@
+/*
+ * One call of the library beside the reference: the answer and every lent room, with what lies around it, and what was lent to be
+ * read. Words and texts end where readable memory ends.
+ */
+#define _GNU_SOURCE
+#include "calls.h"
+
+#include "../../include/leastplan.h"
+#include "draw.h"
+
+#include <stdio.h>
+#include <stdlib.h>
+#include <string.h>
+#include <sys/mman.h>
+#include <unistd.h>
+
+enum { ROOM = 260, AROUND = 16 };
+
+struct tally tally;
+
+static unsigned char *end_of_memory; /* behind it nothing can be read */
+
+void make_memory(void)
+{
+    size_t page = (size_t)sysconf(_SC_PAGESIZE), size = (BYTES + page - 1) / page * page;
+    unsigned char *at = mmap(NULL, size + page, PROT_READ | PROT_WRITE, MAP_PRIVATE | MAP_ANONYMOUS, -1, 0);
+    if (at == MAP_FAILED || mprotect(at + size, page, PROT_NONE) != 0) {
+        puts("no memory for the sheets");
+        exit(1);
+    }
+    end_of_memory = at + size;
+}
+
+/* ---- a sheet */
+
+static void show(const struct sheet *s, uint32_t budget, const uint64_t *expected, int numbers, const uint64_t *got)
+{
+    if (tally.failed > 5)
+        return;
+    printf("FAILED: budget %lu, room %zu, expected", (unsigned long)budget, s->room);
+    for (int i = 0; i < numbers; i++)
+        printf(" %llu", (unsigned long long)expected[i]);
+    printf(", got");
+    for (int i = 0; i < 4; i++)
+        printf(" %llu", (unsigned long long)got[i]);
+    printf(", sheet");
+    for (size_t i = 0; i < s->words && i < 400; i++)
+        printf(" %ld", (long)s->word[i]);
+    putchar('\n');
+}
+
+struct reference_answer compare(const struct sheet *s, uint32_t budget)
+{
+    struct reference_answer a = reference(s->word, s->words, budget, s->room);
+    uint8_t room[AROUND + ROOM + AROUND], room_expected[sizeof room];
+    uint64_t numbers[2 + 4 + 2], numbers_expected[8];
+    int32_t *words = (int32_t *)end_of_memory - s->words;
+
+    for (size_t i = 0; i < sizeof room; i++)
+        room[i] = (uint8_t)(0x80 | (draw() >> 56));
+    for (int i = 0; i < 8; i++)
+        numbers[i] = draw() | UINT64_C(1) << 63;
+    memcpy(room_expected, room, sizeof room);
+    memcpy(numbers_expected, numbers, sizeof numbers);
+    memcpy(numbers_expected + 2, a.number, (size_t)a.numbers * sizeof a.number[0]);
+    memcpy(room_expected + AROUND, a.plan, (size_t)a.devices);
+    memcpy(words, s->word, s->words * sizeof words[0]);
+
+    leastplan_search(words, s->words, budget, room + AROUND, s->room, numbers + 2);
+
+    tally.searches++;
+    tally.by_code[a.number[0]]++;
+    tally.by_number += a.by_number;
+    tally.by_marks += a.by_marks;
+    if (memcmp(room, room_expected, sizeof room) == 0 && memcmp(numbers, numbers_expected, sizeof numbers) == 0 &&
+        memcmp(words, s->word, s->words * sizeof words[0]) == 0)
+        tally.passed++;
+    else {
+        tally.failed++;
+        show(s, budget, a.number, a.numbers, numbers + 2);
+    }
+    return a;
+}
+
+/* ---- a text */
+
+/* The answer to a text under a budget and in the program's room. */
+static struct reference_answer answer_to(const struct text *t, uint32_t budget)
+{
+    static int32_t word[MOST_WORDS];
+    struct reference_reading r = reference_read(t->byte, t->bytes, word, MOST_WORDS);
+    if (r.code != 0)
+        return (struct reference_answer){.number = {(uint64_t)r.code, r.place}, .numbers = 2};
+    return reference(word, r.words, budget, 200);
+}
+
+void compare_text(const struct text *t, uint32_t most)
+{
+    static char expected[4096];
+    uint8_t out[1024 + AROUND];
+    struct reference_answer a = answer_to(t, most);
+    if (a.number[0] == 2 && most < BUDGET) {
+        tally.left_out++;
+        return;
+    }
+    size_t bytes = reference_print(&a, expected);
+    memset(expected + bytes, 0x5a, sizeof expected - bytes);
+    memset(out, 0x5a, sizeof out);
+    unsigned char *text = end_of_memory - t->bytes;
+    memcpy(text, t->byte, t->bytes);
+
+    size_t told = leastplan_answer(text, t->bytes, out);
+
+    tally.texts++;
+    tally.by_printed[a.number[0]]++;
+    if (told == bytes && memcmp(out, expected, sizeof out) == 0 && memcmp(text, t->byte, t->bytes) == 0)
+        tally.passed++;
+    else {
+        tally.failed++;
+        if (tally.failed <= 5)
+            printf("FAILED: text of %zu bytes: %zu bytes told, expected %zu: %.*sthe text: %.*s\n", t->bytes, told, bytes, (int)bytes, expected,
+                   t->bytes < 2000 ? (int)t->bytes : 2000, (const char *)t->byte);
+    }
+}
