@@ -1,7 +1,8 @@
 -- Opening a node does what the walk of the definitions does there, whatever walks its children.
 --
--- In order: the last test of step 2 (`less-last`); steps 1 and 2 on the numbers are those on the plans (`settled`, `closes-is`); the
--- four ways in which opening a node ends (`opened-stopped`, `opened-met`, `opened-shut`, `opened-branch`). Assumes nothing.
+-- In order: step 1 by the answer to its question (`settles-better`, `settles-kept`); the last test of step 2 (`less-last`); steps 1 and
+-- 2 on the numbers are those on the plans (`settled`, `closes-is`); the four ways in which opening a node ends (`opened-stopped`,
+-- `opened-met`, `opened-shut`, `opened-branch`). Assumes nothing.
 use mathlib.Core.Path.{_≡_, refl, sym, _∙_}
 use mathlib.Core.Bool.{Bool, true, false, cond}
 use mathlib.Core.List.{List, [], _∷_}
@@ -30,6 +31,13 @@ use Rattle.search.specs.Ends.{WentOn}
 use Rattle.search.specs.Node.{alone, Opens}
 use Rattle.search.proofs.Ends.{admitted, stopped}
 use Rattle.search.proofs.Nodes.{node-met, node-shut, node-branches}
+
+module _ {best : BestSoFar} {room p : Plan} {cost held : ℕ} {answer : Bool} (asked : answer ≡ isBetter best room p cost held) where
+  pub settles-better : {room′ : Plan} → answer ≡ true → room′ ≡ p → Settles best room p cost held (record { found = true; cost = cost; held = held }) room′
+  settles-better yes-so copied = let better = sym asked ∙ yes-so in record { numbers = rw better refl; written = rw better copied }
+
+  pub settles-kept : answer ≡ false → Settles best room p cost held best room
+  settles-kept not-so = let worse = sym asked ∙ not-so in record { numbers = rw worse refl; written = rw worse refl }
 
 pub less-last : (x y : ℕ) → less (x ∷ []) ((y + 1) ∷ []) ≡ leb x y
 unfolding less

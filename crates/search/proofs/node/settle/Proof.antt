@@ -1,6 +1,6 @@
 -- `settle` meets its contract: the plan is copied exactly where `is_better` says so. Assumes nothing.
-use mathlib.Core.Path.{refl, sym, _∙_}
 use borrow.Author.Needs.{needs}
+use Rattle.search.proofs.Openings.{settles-better, settles-kept}
 use Rattle.search.proofs.node.settle.Statement.{statement}
 use Rattle.search.proofs.node.settle.Tie as tie
 
@@ -16,16 +16,13 @@ same-length c = search needs
 returns : tie.Need-returns
 returns c =
     let asked = c .before .before .before .before in
-    let better = sym (asked .before .is-better .ensures) ∙ asked .if1 .taken in
-    record { numbers = rw better refl; written = rw better (c .before .before .copy-plan .ensures) }
+    settles-better (asked .before .is-better .ensures) (asked .if1 .taken) (c .before .before .copy-plan .ensures)
 
 same-length-2 : tie.Need-same-length-2
 same-length-2 c = search needs
 
 returns-2 : tie.Need-returns-2
-returns-2 c =
-    let worse = sym (c .before .is-better .ensures) ∙ c .if1 .left in
-    record { numbers = rw worse refl; written = rw worse refl }
+returns-2 c = settles-kept (c .before .is-better .ensures) (c .if1 .left)
 
 pub settle-spec : {M : Type 1} → statement M
 settle-spec =
