@@ -25,7 +25,7 @@ use Rattle.sheet.specs.declared.check.Step.{Step}
 use Rattle.sheet.specs.declared.check.Step.the-variants as step
 use Rattle.sheet.specs.declared.Refusal.{Refusal}
 use Rattle.sheet.specs.declared.Refusal.the-variants.{TooShort, BadCount}
-use Rattle.sheet.proofs.Items.{number-alike, inside, told-missing, told-outside}
+use Rattle.sheet.proofs.Items.{alike-same, inside, told-missing, told-outside}
 use Rattle.sheet.proofs.Runs.{run-bad, run-on}
 
 -- ── a count that is made ──
@@ -42,10 +42,10 @@ module _ (ws : List ℤ) (i most : ℕ) (told : Item) (e : told ≡ itemOf (upTo
       go (some w) e = by (upTo most w) e
 
   pub count-outside : told ≡ item.Outside → count.Bad BadCount i ≡ countOf (word badCount (upTo most) ws i)
-  count-outside u = rw (told-outside badCount (upTo most) (upTo most) (number-alike most) ws i told e u)
+  count-outside u = rw (told-outside badCount (upTo most) (upTo most) (alike-same (upTo most)) ws i told e u)
 
   pub count-missing : told ≡ item.Missing → count.Bad TooShort (length ws) ≡ countOf (word badCount (upTo most) ws i)
-  count-missing u = rw (told-missing badCount (upTo most) (upTo most) (number-alike most) ws i told e u)
+  count-missing u = rw (told-missing badCount (upTo most) (upTo most) (alike-same (upTo most)) ws i told e u)
 
 -- ── a count that is used ──
 -- what the reader gave where the count is bad

@@ -140,8 +140,8 @@ Alike none (some c) = ⊥
 Alike (some a) none = ⊥
 Alike (some a) (some c) = Unit {0}
 
-pub number-alike : (most : ℕ) (w : ℤ) → Alike (upTo most w) (upTo most w)
-number-alike most w = go (upTo most w)
+pub alike-same : (tell : ℤ → Option ℕ) (w : ℤ) → Alike (tell w) (tell w)
+alike-same tell w = go (tell w)
   where
     go : (x : Option ℕ) → Alike x x
     go none = tt

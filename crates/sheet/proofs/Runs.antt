@@ -19,7 +19,7 @@ use Rattle.sheet.specs.declared.check.Count.the-variants as count
 use Rattle.sheet.specs.declared.check.Step.{Step}
 use Rattle.sheet.specs.declared.check.Step.the-variants as step
 use Rattle.sheet.specs.declared.Refusal.the-variants.{TooShort, BadCost, BadEntry}
-use Rattle.sheet.proofs.Items.{Alike, number-alike, entry-alike, told-missing, told-outside, told-is}
+use Rattle.sheet.proofs.Items.{Alike, alike-same, entry-alike, told-missing, told-outside, told-is}
 
 -- ── any reader ──
 module _ {A : Type 0} (r : Reader A) (ws : List ℤ) (place left : ℕ) (whole : Step) (inv : stepOf (times left r ws place) ≡ whole) where
@@ -62,13 +62,13 @@ module _ {A : Type 0} (f : Fault) (value : ℤ → Option A) (tell : ℤ → Opt
 
 module _ (ws : List ℤ) (place left : ℕ) (whole : Step) (inv : stepOf (times left cost ws place) ≡ whole) (more : left ≡ 0 → ⊥) (told : Item) (e : told ≡ itemOf (upTo 1000000000) (getElem? ws place)) where
   pub cost-missing : told ≡ item.Missing → step.Bad TooShort (length ws) ≡ whole
-  cost-missing = word-missing badCost (upTo 1000000000) (upTo 1000000000) (number-alike 1000000000) ws place left whole inv more told e
+  cost-missing = word-missing badCost (upTo 1000000000) (upTo 1000000000) (alike-same (upTo 1000000000)) ws place left whole inv more told e
 
   pub cost-outside : told ≡ item.Outside → step.Bad BadCost place ≡ whole
-  cost-outside = word-outside badCost (upTo 1000000000) (upTo 1000000000) (number-alike 1000000000) ws place left whole inv more told e
+  cost-outside = word-outside badCost (upTo 1000000000) (upTo 1000000000) (alike-same (upTo 1000000000)) ws place left whole inv more told e
 
   pub cost-on : (c : ℕ) → told ≡ item.Is c → stepOf (times (left - 1) cost ws (place + 1)) ≡ whole
-  cost-on = word-on badCost (upTo 1000000000) (upTo 1000000000) (number-alike 1000000000) ws place left whole inv more told e
+  cost-on = word-on badCost (upTo 1000000000) (upTo 1000000000) (alike-same (upTo 1000000000)) ws place left whole inv more told e
 
 module _ (n : ℕ) (ws : List ℤ) (place left : ℕ) (whole : Step) (inv : stepOf (times left (entry n) ws place) ≡ whole) (more : left ≡ 0 → ⊥) (told : Item) (e : told ≡ itemOf (codeIn n) (getElem? ws place)) where
   pub entry-missing : told ≡ item.Missing → step.Bad TooShort (length ws) ≡ whole
@@ -82,8 +82,4 @@ module _ (n : ℕ) (ws : List ℤ) (place left : ℕ) (whole : Step) (inv : step
 
 -- the word is there
 pub told-inside : (ws : List ℤ) (i c : ℕ) (tell : ℤ → Option ℕ) (told : Item) → told ≡ itemOf tell (getElem? ws i) → told ≡ item.Is c → i < length ws
-told-inside ws i c tell told e u = told-is tooShort tell tell (λ w. same (tell w)) ws i told e c u .here
-  where
-    same : (x : Option ℕ) → Alike x x
-    same Option.none = tt
-    same (Option.some n) = tt
+told-inside ws i c tell told e u = told-is tooShort tell tell (alike-same tell) ws i told e c u .here

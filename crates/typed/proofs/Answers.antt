@@ -1,16 +1,14 @@
 -- The answer of `read`: what the two passes come to, and that the contract allows one answer and one room only.
 --
 -- In order: a text that is not too long is read token by token (`within`), one that is too long is not (`too-long`); an answer that
--- was scanned (`scanned-words`, `scanned-refused`), and its contract (`answers`); the numbers tell the kinds, the answers and the
--- readings apart (`code-injective`, `numbers-injective`, `told-injective`); two results that the contract allows are equal
--- (`reads-once`). Assumes nothing.
+-- was scanned (`scanned-words`, `scanned-refused`), and its contract (`answers`); the numbers tell the kinds and the answers apart
+-- (`code-injective`, `numbers-injective`); two results that the contract allows are equal (`reads-once`). Assumes nothing.
 use mathlib.Core.Path.{_≡_, refl, sym, _∙_, ap}
 use mathlib.Core.Bool.{cond}
-use mathlib.Core.List.{List, _++_}
+use mathlib.Core.List.{List}
 use Prim.Native.Nat.{ℕ, _≤_, _<_}
 use native.Mathlib.Omega.{arith}
-use lib.ListN.{length, take, drop}
-use lib.Seq.{take-append-seam}
+use lib.ListN.{length}
 use lib.IntN.{ℤ}
 use lib.Dec.{eqb}
 use borrow.Author.Tests.{lt-ltb, le-ltb}
@@ -91,22 +89,6 @@ numbers-injective (Refused m i) (Refused n j) e =
     let p : i ≡ j = cc in
     let k = code-injective m n c in
     cc
-
-pub told-injective : (before : List ℤ) (x y : Read (List ℤ)) → numbersOf (answered x) ≡ numbersOf (answered y)
-    → roomAfter x before ≡ roomAfter y before → x ≡ y
-told-injective before x y e f = go x y (numbers-injective (answered x) (answered y) e) f
-  where
-    go : (x y : Read (List ℤ)) → answered x ≡ answered y → roomAfter x before ≡ roomAfter y before → x ≡ y
-    go (refused m i) (refused n j) e f = let a : m ≡ n = cc in let b : i ≡ j = cc in cc
-    go (refused m i) (got ws) e f = absurd (let z : _≡_ {A = ℕ} 0 1 = cc in omega arith)
-    go (got ws) (refused m i) e f = absurd (let z : _≡_ {A = ℕ} 0 1 = cc in omega arith)
-    go (got ws) (got vs) e f =
-        let n : length ws ≡ length vs = cc in
-        ap got
-        (sym (take-append-seam ws (drop (length ws) before))
-        ∙ ap (take (length ws)) f
-        ∙ ap (λ (k : ℕ). take k (vs ++ drop (length vs) before)) n
-        ∙ take-append-seam vs (drop (length vs) before))
 
 pub reads-once : {text : List ℕ} {before : List ℤ} {r s : Reading} {a b : List ℤ} → Reads text before r a → Reads text before s b → (r ≡ s) × (a ≡ b)
 reads-once {r = r} {s = s} x y = (numbers-injective r s (x .says ∙ sym (y .says)), x .room ∙ sym (y .room))

@@ -13,7 +13,7 @@ use native.Mathlib.Numerals.{add-one}
 use lib.ListN.{length, getD, take, drop, drop-of-length-le, take-append-drop}
 use lib.Seq.{drop-cons}
 use Rattle.typed.specs.Text.{front}
-use Rattle.typed.specs.Allowed.{Each}
+use Rattle.typed.specs.Allowed.{Passing}
 use Rattle.typed.specs.Steps.{Passes}
 
 -- behind a run the list ends, or a byte stands that fails the test
@@ -46,12 +46,12 @@ module _ (test : ℕ → Bool) where
       sym (take-append-drop (length (front test l)) l)
       ∙ ap (λ (x : List ℕ). x ++ drop (length (front test l)) l) (take-front l)
 
-  pub front-each : (l : List ℕ) → Each test (front test l)
+  pub front-each : (l : List ℕ) → Passing test (front test l)
   unfolding front
   front-each [] = tt
   front-each (b ∷ bs) = go (test b) refl (front-each bs)
     where
-      go : (t : Bool) → test b ≡ t → Each test (front test bs) → Each test (cond t (b ∷ front test bs) [])
+      go : (t : Bool) → test b ≡ t → Passing test (front test bs) → Passing test (cond t (b ∷ front test bs) [])
       go true e ih = (e, ih)
       go false e ih = tt
 
@@ -65,7 +65,7 @@ module _ (test : ℕ → Bool) where
       go true e ih = ih
       go false e ih = e
 
-  pub each-front : (l after : List ℕ) → Each test l → Fails test after → front test (l ++ after) ≡ l
+  pub each-front : (l after : List ℕ) → Passing test l → Fails test after → front test (l ++ after) ≡ l
   unfolding front
   each-front [] [] e f = refl
   each-front [] (b ∷ bs) e f = rw f

@@ -4,7 +4,7 @@
 -- (`judged-by`); what a token says by its sign and digits (`says-none`, `says-behind`, `says-many`, `says-value`); a token with and
 -- without a minus (`with-minus`, `without-minus`). Assumes nothing.
 use mathlib.Core.Path.{_≡_, refl, sym, _∙_, ap}
-use mathlib.Core.Bool.{Bool, true, false, cond, _||_, not}
+use mathlib.Core.Bool.{Bool, true, false, cond, not}
 use mathlib.Core.List.{List, [], _∷_}
 use Prim.Native.Nat.{ℕ, suc, _+_, _-_, _≤_, _<_}
 use native.Mathlib.Omega.{arith}
@@ -13,6 +13,7 @@ use lib.Seq.{take-all}
 use lib.IntN.{ℤ}
 use lib.Dec.{eqb, ltb}
 use borrow.Author.Tests.{eq-eqb, ne-eqb, lt-ltb, le-ltb}
+use Rattle.hall.proofs.Cases.{or-right}
 use Rattle.typed.specs.Text.{Read, refused, got, isDigit, digitsIn, isWrong, decimal, signed, inRange, isBad, judged, numberOf, valueOf, placed}
 use Rattle.typed.specs.Steps.{fitted, Behind}
 use Rattle.typed.specs.declared.Mistake.the-variants.{WrongByte, BadNumber}
@@ -20,16 +21,12 @@ use Rattle.typed.specs.declared.token.Signed.{Signed}
 use Rattle.typed.specs.declared.token.Signed.the-variants.{Fits, Beyond}
 use Rattle.typed.proofs.Fronts.{front-length}
 
-or-right : (a : Bool) {b : Bool} → b ≡ true → (a || b) ≡ true
-or-right true h = refl
-or-right false h = h
-
 module _ (ds : List ℕ) where
   pub wrong-none : digitsIn ds ≡ 0 → isWrong ds ≡ true
   wrong-none e = rw (eq-eqb (digitsIn ds) 0 e)
 
   pub wrong-behind : digitsIn ds < length ds → isWrong ds ≡ true
-  wrong-behind h = or-right (eqb (digitsIn ds) 0) (lt-ltb (digitsIn ds) (length ds) h)
+  wrong-behind h = or-right (eqb (digitsIn ds) 0) _ (lt-ltb (digitsIn ds) (length ds) h)
 
   pub right : (digitsIn ds ≡ 0 → ⊥) → length ds ≤ digitsIn ds → isWrong ds ≡ false
   right n h = rw (ne-eqb (digitsIn ds) 0 n, le-ltb (digitsIn ds) (length ds) h)
@@ -39,7 +36,7 @@ module _ (ds : List ℕ) where
     bad-many h = rw (lt-ltb 10 (length ds) h)
 
     pub bad-value : inRange (signed minus (decimal 0 ds)) ≡ false → isBad minus ds ≡ true
-    bad-value e = or-right (ltb 10 (length ds)) (ap not e)
+    bad-value e = or-right (ltb 10 (length ds)) _ (ap not e)
 
     pub good : length ds ≤ 10 → inRange (signed minus (decimal 0 ds)) ≡ true → isBad minus ds ≡ false
     good h e = rw (le-ltb 10 (length ds) h, e)

@@ -14,10 +14,12 @@ use lib.ListN.{length, drop, length-append}
 use lib.IntN.{ℤ, pos, negsuc, negℤ}
 use lib.Dec.{ltb, lit<}
 use borrow.Author.Tests.{ltb-true, ltb-false, le-leb}
+use Rattle.hall.specs.Ranges.{Each}
+use Rattle.hall.proofs.Each.{each-append}
 use Rattle.typed.specs.Text.{Read, got, isSeparator, isDigit, decimal, readText}
 use Rattle.typed.specs.Answer.{answered, numbersOf, roomAfter, Reads}
-use Rattle.typed.specs.Allowed.{Each, InRange, Allowed, nothing, word, Spells, ended, last}
-use Rattle.typed.specs.Printing.{digitsBy, digitsOf, printedWord, printed, AllInRange}
+use Rattle.typed.specs.Allowed.{Passing, InRange, Allowed, nothing, word, Spells, ended, last}
+use Rattle.typed.specs.Printing.{digitsBy, digitsOf, printedWord, printed}
 use Rattle.typed.specs.declared.Reading.{Reading}
 use Rattle.typed.specs.declared.Reading.the-variants.{Words}
 use Rattle.typed.proofs.Answers.{numbers-injective}
@@ -26,10 +28,6 @@ use Rattle.typed.proofs.Verdicts.{verdict-only}
 -- ── the digits of a number ──
 digit-is : (n : ℕ) → n < 10 → isDigit (48 + n) ≡ true
 digit-is n h = rw (le-leb 48 (48 + n) (omega arith), le-leb (48 + n) 57 (omega arith))
-
-each-append : (a b : List ℕ) → Each isDigit a → Each isDigit b → Each isDigit (a ++ b)
-each-append [] b e f = f
-each-append (x ∷ a) b e f = (e .0, each-append a b (e .1) f)
 
 decimal-append : (n : ℕ) (a : List ℕ) (b : ℕ) → decimal n (a ++ (b ∷ [])) ≡ decimal n a * 10 + (b - 48)
 unfolding decimal
@@ -40,17 +38,17 @@ decimal-append n (x ∷ a) b = decimal-append (n * 10 + (x - 48)) a b
 tenth : (k n : ℕ) → n ≤ suc k → 10 ≤ n → n / 10 ≤ k
 tenth k n h l = omega (arith, div-lt-self {n = n} {k = 10} (omega arith) (lit< tt))
 
-digits-each : (k n : ℕ) → n ≤ k → Each isDigit (digitsBy k n)
+digits-each : (k n : ℕ) → n ≤ k → Passing isDigit (digitsBy k n)
 unfolding digitsBy
 digits-each zero n h = (digit-is n (omega arith), tt)
 digits-each (suc k) n h = go (ltb n 10) refl (digits-each k (n / 10))
   where
-    go : (t : Bool) → ltb n 10 ≡ t → (n / 10 ≤ k → Each isDigit (digitsBy k (n / 10)))
-        → Each isDigit (cond t ((48 + n) ∷ []) (digitsBy k (n / 10) ++ ((48 + n % 10) ∷ [])))
+    go : (t : Bool) → ltb n 10 ≡ t → (n / 10 ≤ k → Passing isDigit (digitsBy k (n / 10)))
+        → Passing isDigit (cond t ((48 + n) ∷ []) (digitsBy k (n / 10) ++ ((48 + n % 10) ∷ [])))
     go true u ih = (digit-is n (ltb-true n 10 u), tt)
     go false u ih =
         let last = digit-is (n % 10) (mod-lt n {m = 10} (lit< tt)) in
-        each-append (digitsBy k (n / 10)) ((48 + n % 10) ∷ []) (ih (tenth k n h (ltb-false n 10 u))) (last, tt)
+        each-append (λ b. isDigit b ≡ true) (digitsBy k (n / 10)) ((48 + n % 10) ∷ []) (ih (tenth k n h (ltb-false n 10 u))) (last, tt)
 
 digits-say : (k n : ℕ) → n ≤ k → decimal 0 (digitsBy k n) ≡ n
 unfolding digitsBy decimal
@@ -124,19 +122,19 @@ spells-word {token} {z = z} b a e (last {token = end} r l q) =
     l
     (ap (λ (l : List ℤ). z ∷ l) q)
 
-pub printed-spells : (words : List ℤ) → AllInRange words → Spells (printed words) words
+pub printed-spells : (words : List ℤ) → Each InRange words → Spells (printed words) words
 unfolding printed
 printed-spells [] h = ended nothing
 printed-spells (z ∷ []) h = last (record { before = []; closed = nothing; whole = refl; size = refl }) (word-allowed z (h .0)) refl
 printed-spells (z ∷ y ∷ words) h = spells-word 32 (word-allowed z (h .0)) refl (printed-spells (y ∷ words) (h .1))
 
-pub printed-reads : (words : List ℤ) (room : ℕ) → AllInRange words → length (printed words) ≤ 60000 → length words ≤ room
+pub printed-reads : (words : List ℤ) (room : ℕ) → Each InRange words → length (printed words) ≤ 60000 → length words ≤ room
     → readText (printed words) room ≡ got words
 printed-reads words room h short fits =
     verdict-only (printed words) room (got words) (record { short = short; fits = fits; spells = printed-spells words h })
 
 -- so `read` answers their number and puts them at the front of the room
-pub printed-back : (words before : List ℤ) {r : Reading} {after : List ℤ} → AllInRange words → length (printed words) ≤ 60000
+pub printed-back : (words before : List ℤ) {r : Reading} {after : List ℤ} → Each InRange words → length (printed words) ≤ 60000
     → length words ≤ length before
     → Reads (printed words) before r after → (r ≡ Words (length words)) × (after ≡ words ++ drop (length words) before)
 printed-back words before {r} h short fits x =

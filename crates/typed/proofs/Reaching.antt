@@ -11,7 +11,7 @@ use native.Mathlib.Omega.{arith}
 use lib.ListN.{length, length-append}
 use lib.IntN.{ℤ}
 use Rattle.typed.specs.Text.{Read, refused, got, then, isSeparator, inToken, isDigit, Token, tokensFrom, tokens, wordsOf, placed}
-use Rattle.typed.specs.Allowed.{Each, sign, Allowed, Closed, nothing, separator, word, Reached}
+use Rattle.typed.specs.Allowed.{Passing, sign, Allowed, Closed, nothing, separator, word, Reached}
 use Rattle.typed.proofs.Digits.{digit-in-token, minus-in-token}
 use Rattle.typed.proofs.Taking.{got-one}
 use Rattle.typed.proofs.Runs.{run-token}
@@ -25,15 +25,15 @@ closed-append {b = b} {vs = vs} (word {token} {z} s {bs} {words} a e c) d =
     subst (λ (l : List ℕ). Closed l (z ∷ (words ++ vs))) (sym (append-assoc token (s ∷ bs) b)) (word s a e (closed-append c d))
 
 -- an allowed token has a byte, and only bytes of a token
-each-digits : (digits : List ℕ) → Each isDigit digits → Each inToken digits
+each-digits : (digits : List ℕ) → Passing isDigit digits → Passing inToken digits
 each-digits [] e = tt
 each-digits (b ∷ bs) e = (digit-in-token b (e .0), each-digits bs (e .1))
 
 module _ {token : List ℕ} {z : ℤ} (a : Allowed token z) where
-  pub allowed-bytes : Each inToken token
-  allowed-bytes = subst (Each inToken) (sym (a .spelled)) (go (a .minus))
+  pub allowed-bytes : Passing inToken token
+  allowed-bytes = subst (Passing inToken) (sym (a .spelled)) (go (a .minus))
     where
-      go : (minus : Bool) → Each inToken (sign minus ++ a .digits)
+      go : (minus : Bool) → Passing inToken (sign minus ++ a .digits)
       go true = (minus-in-token, each-digits (a .digits) (a .each))
       go false = each-digits (a .digits) (a .each)
 

@@ -11,7 +11,7 @@ use lib.ListN.{length, drop}
 use lib.Seq.{drop-append-seam}
 use borrow.Author.Tests.{not-true, not-false}
 use Rattle.typed.specs.Text.{isSeparator, inToken, front, placed, tokensFrom}
-use Rattle.typed.specs.Allowed.{Each}
+use Rattle.typed.specs.Allowed.{Passing}
 use Rattle.typed.specs.Reasons.{Ends}
 use Rattle.typed.proofs.Fronts.{Fails, front-splits, front-each, front-fails, each-front}
 use Rattle.typed.proofs.Splitting.{first-token}
@@ -25,7 +25,7 @@ ends-fails : (after : List ℕ) → Ends after → Fails inToken after
 ends-fails [] e = tt
 ends-fails (b ∷ bs) e = ap not e
 
-pub run-token : (i : ℕ) (token after : List ℕ) → 1 ≤ length token → Each inToken token → Ends after
+pub run-token : (i : ℕ) (token after : List ℕ) → 1 ≤ length token → Passing inToken token → Ends after
     → tokensFrom true i (token ++ after) ≡ placed i token ∷ tokensFrom true (i + length token) after
 run-token i [] after some bytes ends = absurd (omega arith)
 run-token i (b ∷ bs) after some bytes ends =
@@ -40,7 +40,7 @@ pub record Run (l : List ℕ) : Type 0 where
   pub after : List ℕ
   pub whole : l ≡ token ++ after
   pub some : 1 ≤ length token
-  pub bytes : Each inToken token
+  pub bytes : Passing inToken token
   pub ends : Ends after
 
 pub token-run : (b : ℕ) (bs : List ℕ) → isSeparator b ≡ false → Run (b ∷ bs)

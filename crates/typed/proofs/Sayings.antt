@@ -5,7 +5,7 @@
 -- (`says-only`). Assumes nothing.
 use mathlib.Core.Path.{_≡_, refl, sym, _∙_, ap, subst}
 use mathlib.Core.Logic.{_⊎_, inl, inr}
-use mathlib.Core.Bool.{Bool, true, false, cond, not, _||_, false≢true, true≢false}
+use mathlib.Core.Bool.{Bool, true, false, cond, not, _||_, false≢true}
 use mathlib.Core.List.{List, [], _∷_, _++_, append-nil}
 use Prim.Native.Nat.{ℕ, _+_, _≤_, _<_}
 use native.Mathlib.Omega.{arith}
@@ -14,8 +14,9 @@ use lib.Seq.{take-length}
 use lib.IntN.{ℤ, pos, negsuc}
 use lib.Dec.{ltb, eqb}
 use borrow.Author.Tests.{ltb-true, ltb-false, leb-true, le-leb, eqb-true, eqb-false, ne-eqb, not-false}
+use Rattle.hall.proofs.Cases.{fails, or-false}
 use Rattle.typed.specs.Text.{Read, refused, got, isDigit, front, hasMinus, behindMinus, digitsIn, isWrong, decimal, signed, inRange, isBad, judged, numberOf, valueOf, placed}
-use Rattle.typed.specs.Allowed.{Each, sign, InRange, Allowed}
+use Rattle.typed.specs.Allowed.{Passing, sign, InRange, Allowed}
 use Rattle.typed.specs.Reasons.{Stops, Wrong, Bad}
 use Rattle.typed.specs.declared.Mistake.the-variants.{WrongByte, BadNumber, TooLong, NoRoom}
 use Rattle.typed.proofs.Digits.{digit-range}
@@ -35,7 +36,7 @@ behind-sign : (token : List ℕ) (minus : Bool) (l : List ℕ) → hasMinus toke
 behind-sign token true l h e = ap (λ (m : Bool). cond m (drop 1 token) token) h ∙ ap (drop 1) e
 behind-sign token false l h e = ap (λ (m : Bool). cond m (drop 1 token) token) h ∙ e
 
-opens-digits : (minus : Bool) (digits : List ℕ) → Each isDigit digits → 1 ≤ length digits → hasMinus (sign minus ++ digits) ≡ minus
+opens-digits : (minus : Bool) (digits : List ℕ) → Passing isDigit digits → 1 ≤ length digits → hasMinus (sign minus ++ digits) ≡ minus
 opens-digits true digits each some = refl
 opens-digits false [] each some = absurd (omega arith)
 opens-digits false (b ∷ bs) each some = let r = digit-range b (each .0) in ne-eqb b 45 (λ e. omega arith)
@@ -54,17 +55,9 @@ true-range (pos n) h = le-leb n 2147483647 h
 true-range (negsuc n) h = le-leb n 2147483647 h
 
 out-of-range : (z : ℤ) → (InRange z → ⊥) → inRange z ≡ false
-out-of-range z h = go (inRange z) refl
-  where
-    go : (b : Bool) → inRange z ≡ b → b ≡ false
-    go true e = absurd (h (range-true z e))
-    go false e = refl
+out-of-range z h = fails (λ (e : inRange z ≡ true). h (range-true z e))
 
 -- ── 21 and 22 as facts ──
-or-false : (a b : Bool) → (a || b) ≡ false → (a ≡ false) × (b ≡ false)
-or-false true b h = absurd (true≢false h)
-or-false false b h = (refl, h)
-
 or-true : (a b : Bool) → (a || b) ≡ true → (a ≡ true) ⊎ (b ≡ true)
 or-true true b h = inl refl
 or-true false b h = inr h
@@ -95,14 +88,14 @@ stops-wrong : (digits rest : List ℕ) → digitsIn (digits ++ rest) ≡ length 
 stops-wrong digits [] n s = wrong-none (digits ++ []) (n ∙ ap length s)
 stops-wrong digits (b ∷ bs) n s = wrong-behind (digits ++ (b ∷ bs)) (omega (arith, n, length-append digits (b ∷ bs)))
 
-right-all : (ds : List ℕ) → isWrong ds ≡ false → (1 ≤ length ds) × Each isDigit ds
+right-all : (ds : List ℕ) → isWrong ds ≡ false → (1 ≤ length ds) × Passing isDigit ds
 right-all ds e =
     let p = or-false (eqb (digitsIn ds) 0) (ltb (digitsIn ds) (length ds)) e in
     let some = eqb-false (digitsIn ds) 0 (p .0) in
     let all = ltb-false (digitsIn ds) (length ds) (p .1) in
     let size : length ds ≡ digitsIn ds = omega (arith, front-length isDigit ds) in
     let is : ds ≡ front isDigit ds = sym (take-length ds) ∙ ap (λ (k : ℕ). take k ds) size ∙ take-front isDigit ds in
-    (omega (arith, some), subst (Each isDigit) (sym is) (front-each isDigit ds))
+    (omega (arith, some), subst (Passing isDigit) (sym is) (front-each isDigit ds))
 
 module _ (minus : Bool) (ds : List ℕ) where
   bad-why : isBad minus ds ≡ true → (10 < length ds) ⊎ (InRange (signed minus (decimal 0 ds)) → ⊥)
@@ -179,7 +172,7 @@ module _ (place : ℕ) (token : List ℕ) where
   number-of : (minus : Bool) (l : List ℕ) → hasMinus token ≡ minus → token ≡ sign minus ++ l → valueOf (placed place token) ≡ numberOf minus place l
   number-of minus l h e = ap (λ (m : Bool). numberOf m place (behindMinus token)) h ∙ ap (numberOf minus place) (behind-sign token minus l h e)
 
-  module _ (minus : Bool) (digits : List ℕ) (spelled : token ≡ sign minus ++ digits) (each : Each isDigit digits) (some : 1 ≤ length digits) where
+  module _ (minus : Bool) (digits : List ℕ) (spelled : token ≡ sign minus ++ digits) (each : Passing isDigit digits) (some : 1 ≤ length digits) where
     all-digits : isWrong digits ≡ false
     all-digits =
         let n : digitsIn digits ≡ length digits = ap length (ap (front isDigit) (sym (append-nil digits)) ∙ each-front isDigit digits [] each tt) in

@@ -8,12 +8,12 @@ use mathlib.Core.List.{List, [], _∷_, _++_}
 use Prim.Native.Nat.{ℕ, _≤_}
 use lib.ListN.{length}
 use lib.IntN.{ℤ, pos, negsuc}
+use Rattle.hall.specs.Ranges.{Each}
 use Rattle.typed.specs.Text.{isSeparator, isDigit, decimal, signed}
 
 -- each byte of a list passes a test
-abbrev pub Each : (ℕ → Bool) → List ℕ → Type 0
-Each test [] = Unit {0}
-Each test (b ∷ bs) = (test b ≡ true) × Each test bs
+abbrev pub Passing : (ℕ → Bool) → List ℕ → Type 0
+Passing test = Each (λ b. test b ≡ true)
 
 -- "an optional minus", the byte 45
 abbrev pub sign : (minus : Bool) → List ℕ
@@ -30,7 +30,7 @@ pub record Allowed (token : List ℕ) (z : ℤ) : Type 0 where
   pub minus : Bool
   pub digits : List ℕ
   pub spelled : token ≡ sign minus ++ digits
-  pub each : Each isDigit digits
+  pub each : Passing isDigit digits
   pub some : 1 ≤ length digits
   pub few : length digits ≤ 10
   pub value : z ≡ signed minus (decimal 0 digits)

@@ -1,13 +1,12 @@
 -- Words printed in decimal, with single blanks between them.
 --
--- In order: the digits of a number; a word; a list of words; words of 32 bits. That such a text reads back as its words is a theorem
+-- In order: the digits of a number; a word; a list of words. That such a text reads back as its words is a theorem
 -- (proofs/Printed). Definitions only.
 use mathlib.Core.Bool.{cond}
 use mathlib.Core.List.{List, [], _∷_, _++_}
 use Prim.Native.Nat.{ℕ, zero, suc, _+_, _/_, _%_}
 use lib.IntN.{ℤ, pos, negsuc}
 use lib.Dec.{ltb}
-use Rattle.typed.specs.Allowed.{InRange}
 
 -- the decimal digits of n, the most significant first, none of them a leading zero; n divisions are more than enough
 unfoldable pub digitsBy : (divisions : ℕ) → ℕ → List ℕ
@@ -27,8 +26,3 @@ unfoldable pub printed : List ℤ → List ℕ
 printed [] = []
 printed (z ∷ []) = printedWord z
 printed (z ∷ y ∷ zs) = printedWord z ++ (32 ∷ printed (y ∷ zs))
-
--- signed 32-bit words: each from -2,147,483,648 to 2,147,483,647
-abbrev pub AllInRange : List ℤ → Type 0
-AllInRange [] = Unit {0}
-AllInRange (z ∷ zs) = InRange z × AllInRange zs

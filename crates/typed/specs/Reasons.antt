@@ -10,7 +10,7 @@ use Prim.Native.Nat.{ℕ, _+_, _≤_, _<_}
 use lib.ListN.{length}
 use lib.IntN.{ℤ}
 use Rattle.typed.specs.Text.{isSeparator, inToken, isDigit, hasMinus, decimal, signed}
-use Rattle.typed.specs.Allowed.{Each, sign, InRange, Allowed, Reached}
+use Rattle.typed.specs.Allowed.{Passing, sign, InRange, Allowed, Reached}
 use Rattle.typed.specs.declared.Mistake.{Mistake}
 use Rattle.typed.specs.declared.Mistake.the-variants.{WrongByte, BadNumber, TooLong, NoRoom}
 
@@ -24,7 +24,7 @@ pub record TokenAt (text : List ℕ) (words : List ℤ) (place : ℕ) (token : L
   pub after : List ℕ
   pub reached : Reached text words place (token ++ after)
   pub some : 1 ≤ length token
-  pub bytes : Each inToken token
+  pub bytes : Passing inToken token
   pub ends : Ends after
 
 -- behind the digits stands another byte; or nothing stands there, and there is no digit
@@ -40,7 +40,7 @@ pub record Wrong (token : List ℕ) (before : ℕ) : Type 0 where
   pub digits : List ℕ
   pub rest : List ℕ
   pub spelled : token ≡ sign minus ++ (digits ++ rest)
-  pub each : Each isDigit digits
+  pub each : Passing isDigit digits
   pub stops : Stops digits rest
   pub size : before ≡ length (sign minus) + length digits
 
@@ -49,7 +49,7 @@ pub record Bad (token : List ℕ) : Type 0 where
   pub minus : Bool
   pub digits : List ℕ
   pub spelled : token ≡ sign minus ++ digits
-  pub each : Each isDigit digits
+  pub each : Passing isDigit digits
   pub some : 1 ≤ length digits
   pub bad : (10 < length digits) ⊎ (InRange (signed minus (decimal 0 digits)) → ⊥)
 
