@@ -27,7 +27,7 @@ fn at_start(budget: u32) -> State
 }
 
 // Walks in the rooms that it is lent.
-pub(crate) fn run(
+fn run(
     costs: &[u32],
     codes: &[u16; 16384],
     starts: &[u16; 2001],

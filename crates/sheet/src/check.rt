@@ -23,7 +23,7 @@ pub(crate) enum Step {
 }
 
 // The device count, the rule count or a width.
-pub(crate) fn count_at(words: &[i32], at: usize, most: u32) -> Count
+fn count_at(words: &[i32], at: usize, most: u32) -> Count
     ensures { λ r. ⌜ r ≡ countOf (word badCount (upTo most) (now (words .entry)) at) ⌝ }
 {
     match number_at(words, at, most) {
@@ -34,7 +34,7 @@ pub(crate) fn count_at(words: &[i32], at: usize, most: u32) -> Count
 }
 
 // The costs of all devices.
-pub(crate) fn check_costs(words: &[i32], at: usize, n: usize) -> Step
+fn check_costs(words: &[i32], at: usize, n: usize) -> Step
     ensures { λ r. ⌜ r ≡ stepOf (times n cost (now (words .entry)) at) ⌝ }
 {
     let mut place = at;
@@ -56,7 +56,7 @@ pub(crate) fn check_costs(words: &[i32], at: usize, n: usize) -> Step
 }
 
 // The entries of one rule.
-pub(crate) fn check_entries(words: &[i32], at: usize, width: usize, n: u32) -> Step
+fn check_entries(words: &[i32], at: usize, width: usize, n: u32) -> Step
     requires { ⌜ n ≤ 200 ⌝ }
     ensures { λ r. ⌜ r ≡ stepOf (times width (entry n) (now (words .entry)) at) ⌝ }
 {
@@ -79,7 +79,7 @@ pub(crate) fn check_entries(words: &[i32], at: usize, width: usize, n: u32) -> S
 }
 
 // One rule: its width, then its entries.
-pub(crate) fn check_rule(words: &[i32], at: usize, n: u32) -> Step
+fn check_rule(words: &[i32], at: usize, n: u32) -> Step
     requires { ⌜ n ≤ 200 ⌝ }
     ensures { λ r. ⌜ r ≡ stepOf (rule n (now (words .entry)) at) ⌝ }
 {
@@ -90,7 +90,7 @@ pub(crate) fn check_rule(words: &[i32], at: usize, n: u32) -> Step
 }
 
 // All rules, one after the other.
-pub(crate) fn check_rules(words: &[i32], at: usize, m: usize, n: u32) -> Step
+fn check_rules(words: &[i32], at: usize, m: usize, n: u32) -> Step
     requires { ⌜ n ≤ 200 ⌝ }
     ensures { λ r. ⌜ r ≡ stepOf (times m (rule n) (now (words .entry)) at) ⌝ }
 {

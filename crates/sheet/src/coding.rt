@@ -20,7 +20,7 @@ pub(crate) fn put_costs(words: &[i32], n: usize, costs: &mut [u32; 200])
 }
 
 // The entries of one rule, as codes.
-pub(crate) fn put_entries(
+fn put_entries(
     words: &[i32],
     at: usize,
     width: usize,

@@ -20,7 +20,7 @@ pub(crate) enum Item {
 }
 
 // A word with its sign split off.
-pub(crate) fn word_at(words: &[i32], at: usize) -> Word
+fn word_at(words: &[i32], at: usize) -> Word
     ensures { λ r. ⌜ r ≡ wordOf (getElem? (now (words .entry)) at) ⌝ }
 {
     if words.len() <= at {
