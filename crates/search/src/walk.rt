@@ -1,7 +1,7 @@
 // The walk. 01: "A node opens its entries, and each entry opens a node in turn": two functions in a cycle.
 //
 // A device is held before its child is walked and released behind it, so that one plan serves the whole walk. The entries of a rule
-// are a loop: a call for each of them in its place took up to a sixth more time.
+// are a loop: a call for each of them in its place was slower and took more stack.
 use crate::meter::Meter;
 use crate::node::Opening;
 use crate::node::State;
