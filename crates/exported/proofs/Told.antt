@@ -6,7 +6,7 @@ use mathlib.Core.List.{List, [], _∷_}
 use Prim.Native.Nat.{ℕ}
 use lib.Seq.{sets}
 use lib.IntN.{ℤ}
-use Rattle.sheet.specs.Contract.{codeOfKind}
+use Rattle.sheet.specs.Contract.{refusalCode}
 use Rattle.sheet.specs.declared.Refusal.{Refusal}
 use Rattle.search.specs.Contract.{numbersOf, Finds}
 use Rattle.search.specs.declared.Answer.{Answer}
@@ -30,5 +30,5 @@ module _ {ws : List ℤ} {budget : ℕ} {before after : List ℕ} (numbers : Lis
   pub told-spent : {opened : ℕ} → r ≡ Spent opened → Searches ws budget before numbers after (sets numbers 0 (2 ∷ opened ∷ []))
   told-spent {opened} = told-case (Spent opened)
 
-  pub told-refused : {kind : Refusal} {code place : ℕ} → r ≡ Refused kind place → code ≡ codeOfKind kind → Searches ws budget before numbers after (sets numbers 0 (code ∷ place ∷ []))
+  pub told-refused : {kind : Refusal} {code place : ℕ} → r ≡ Refused kind place → code ≡ refusalCode kind → Searches ws budget before numbers after (sets numbers 0 (code ∷ place ∷ []))
   told-refused {kind} {code} {place} e c = subst (λ n. Searches ws budget before numbers after (sets numbers 0 (n ∷ place ∷ []))) (sym c) (told-case (Refused kind place) e)

@@ -8,16 +8,16 @@ use Rattle.hall.specs.Walk.{keep, oneMore, closes, shut, still, after, e
 use Rattle.hall.specs.Ranges.{wordsOf}
 use Rattle.hall.specs.Reading.{times, rule, hall, decodeBy, decode}
 use Rattle.hall.specs.Answer.{answer}
-use Rattle.hall.specs.Table.{Row, outcome, starred, unstarred, astray}
+use Rattle.hall.specs.Table.{Row, written, starred, unstarred, astray}
 
-pub starred-right : map outcome starred ≡ map (λ (r : Row). r .expected) starred
-unfolding starred outcome answer decode decodeBy hall rule times walkHall walkFrom start walk node nodeBy opening through entryBy after still shut closes oneMore keep better rank less heldFrom heldOf costOf ifHeld firstUnmet meetsAll meetsRule hold isFree holds wordsOf
+pub starred-right : map written starred ≡ map (λ (r : Row). r .expected) starred
+unfolding starred written answer decode decodeBy hall rule times walkHall walkFrom start walk node nodeBy opening through entryBy after still shut closes oneMore keep better rank less heldFrom heldOf costOf ifHeld firstUnmet meetsAll meetsRule hold isFree holds wordsOf
 starred-right = refl
 
-pub unstarred-right : map outcome unstarred ≡ map (λ (r : Row). r .expected) unstarred
-unfolding unstarred outcome answer decode decodeBy hall rule times walkHall walkFrom start walk node nodeBy opening through entryBy after still shut closes oneMore keep better rank less heldFrom heldOf costOf ifHeld firstUnmet meetsAll meetsRule hold isFree holds wordsOf
+pub unstarred-right : map written unstarred ≡ map (λ (r : Row). r .expected) unstarred
+unfolding unstarred written answer decode decodeBy hall rule times walkHall walkFrom start walk node nodeBy opening through entryBy after still shut closes oneMore keep better rank less heldFrom heldOf costOf ifHeld firstUnmet meetsAll meetsRule hold isFree holds wordsOf
 unstarred-right = refl
 
-pub astray-right : map outcome astray ≡ map (λ (r : Row). r .expected) astray
-unfolding astray outcome answer decode decodeBy hall rule times walkHall walkFrom start walk node nodeBy opening through entryBy after still shut closes oneMore keep better rank less heldFrom heldOf costOf ifHeld firstUnmet meetsAll meetsRule hold isFree holds wordsOf
+pub astray-right : map written astray ≡ map (λ (r : Row). r .expected) astray
+unfolding astray written answer decode decodeBy hall rule times walkHall walkFrom start walk node nodeBy opening through entryBy after still shut closes oneMore keep better rank less heldFrom heldOf costOf ifHeld firstUnmet meetsAll meetsRule hold isFree holds wordsOf
 astray-right = refl

@@ -17,7 +17,7 @@ use Rattle.hall.specs.Demands.{Answered}
 use Rattle.hall.proofs.Least.{best-least, least-best, none-best, best-none}
 use Rattle.hall.proofs.Sums.{cost-sum, held-sum}
 use Rattle.hall.proofs.Reasons.{Verdict, verdict, verdict-only}
-use Rattle.hall.proofs.Budget.{Outcome, stops, ends, outcome, over, enough, answer-is}
+use Rattle.hall.proofs.Budget.{Ending, stops, ends, ending, over, enough, answer-is}
 
 module _ (ws : List ℤ) (budget room : ℕ) where
   -- ── the answer has it ──
@@ -28,7 +28,7 @@ module _ (ws : List ℤ) (budget room : ℕ) where
       let plan = k .sheet .plan in
       record { hall = h; sheet = s; plan = k; total = cost-sum p plan; number = held-sum p plan; count = refl; allowed = l }
 
-  walk-answered : (h : Hall) → SheetOf h ws room → Outcome h budget (walkHall h) → Answered ws budget room (within h budget (walkHall h))
+  walk-answered : (h : Hall) → SheetOf h ws room → Ending h budget (walkHall h) → Answered ws budget room (within h budget (walkHall h))
   walk-answered h s (stops l e) = subst (Answered ws budget room) (sym e) (record { hall = h; sheet = s; count = refl; over = l })
   walk-answered h s (ends l e) = subst (Answered ws budget room) (sym e) (finished-answered h s l (walkHall h .best) refl)
 
@@ -38,7 +38,7 @@ module _ (ws : List ℤ) (budget room : ℕ) where
     where
       go : (x : Read Hall) → Verdict ws room x → Answered ws budget room (answerRead budget x)
       go (bad f i) v = v
-      go (got h j) v = walk-answered h (v .0) (outcome h budget (walkHall h))
+      go (got h j) v = walk-answered h (v .0) (ending h budget (walkHall h))
 
   -- ── and no other ──
   same-least : {cost cost′ held held′ opened opened′ : ℕ} {p : Plan} → cost ≡ cost′ → held ≡ held′ → opened ≡ opened′ → least cost held opened p ≡ least cost′ held′ opened′ p

@@ -1,6 +1,6 @@
 -- Rules in which no device is written twice, and what holding one of their devices does to them.
 --
--- In order: from `once` over all entries to each rule and all rules after it (`alone`); each rule is met or wholly free (`Fit`),
+-- In order: from `once` over all entries to each rule and all rules after it (`apart-alone`); each rule is met or wholly free (`Fit`),
 -- at the start (`start-fit`) and after a hold of the first unmet rule, which meets that rule alone (`fit-hold`); the first
 -- unmet rule is wholly free (`first-free`). Assumes nothing.
 use mathlib.Core.Path.{_≡_, refl, ap}
@@ -13,9 +13,10 @@ use lib.ListN.{length, replicate, getD-replicate}
 use lib.Dec.{eqb}
 use borrow.Author.Tests.{eqb-false, not-true}
 use Rattle.hall.specs.Hall.{Entry, device, Rule, Plan, isFree, hold, meetsRule, meetsAll, firstUnmet}
-use Rattle.hall.specs.Ranges.{Each, RuleInRange}
+use Rattle.lists.specs.Lists.{Each}
+use Rattle.hall.specs.Ranges.{RuleInRange}
 use Rattle.hall.specs.Bound.{entries, absent, once}
-use Rattle.hall.proofs.Cases.{test, both, and-both}
+use Rattle.lists.proofs.Cases.{test, both, and-both}
 use Rattle.hall.proofs.Plans.{hold-extends, hold-apart}
 use Rattle.hall.proofs.Rules.{In, first, later, AllFree, meets-mono, hold-meets, free-unmet}
 use Rattle.hall.proofs.Unmet.{unmet}
@@ -66,10 +67,10 @@ unfolding once
 once-away (d ∷ r) s h e first = away-split e r s (away e (r ++ s) (and-both (absent (device e) (r ++ s)) (once (r ++ s)) h .0)) .1
 once-away (d ∷ r) s h e (later i) = once-away r s (and-both (absent (device d) (r ++ s)) (once (r ++ s)) h .1) e i
 
-pub alone : (rs : List Rule) → once (entries rs) ≡ true → Alone rs
+pub apart-alone : (rs : List Rule) → once (entries rs) ≡ true → Alone rs
 unfolding entries
-alone [] h = tt
-alone (r ∷ rs) h = (once-left r (entries rs) h, λ e i. away-rules e rs (once-away r (entries rs) h e i), alone rs (once-right r (entries rs) h))
+apart-alone [] h = tt
+apart-alone (r ∷ rs) h = (once-left r (entries rs) h, λ e i. away-rules e rs (once-away r (entries rs) h e i), apart-alone rs (once-right r (entries rs) h))
 
 -- ── each rule is met, or wholly free ──
 abbrev pub Fit : Plan → List Rule → Type 0

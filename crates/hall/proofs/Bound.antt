@@ -14,7 +14,7 @@ use Rattle.hall.specs.Hall.{Entry, Rule, Hall, Plan, isFree, hold, meets
 use Rattle.hall.specs.Order.{heldOf}
 use Rattle.hall.specs.Walk.{Best, noneYet, Walker, shut, still, after, entryBy, through, opening, nodeBy, node, walk, walkFrom, start, walkHall}
 use Rattle.hall.specs.Bound.{widest, powerSum, boundOf}
-use Rattle.hall.proofs.Cases.{Tri, tri, below, level, above}
+use Rattle.lists.proofs.Cases.{Tri, tri, below, level, above}
 use Rattle.hall.proofs.Plans.{hold-held, hold-length, held-all, start-plan}
 use Rattle.hall.proofs.Rules.{In, first, later}
 use Rattle.hall.proofs.Unmet.{unmet, unmet-rules, unmet-falls}

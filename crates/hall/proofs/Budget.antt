@@ -35,14 +35,14 @@ pub enough : (h : Hall) (budget : ℕ) (w : Walked) → w .opened ≤ budget →
 enough h budget w l = rw (le-ltb budget (w .opened) l)
 
 -- a walk under a budget is spent, and needs more; or it is finished, and does not
-pub data Outcome (h : Hall) (budget : ℕ) (w : Walked) : Type 0 where
-  stops : budget < w .opened → within h budget w ≡ spent budget → Outcome h budget w
-  ends : w .opened ≤ budget → within h budget w ≡ finished h (w .opened) (w .best) → Outcome h budget w
+pub data Ending (h : Hall) (budget : ℕ) (w : Walked) : Type 0 where
+  stops : budget < w .opened → within h budget w ≡ spent budget → Ending h budget w
+  ends : w .opened ≤ budget → within h budget w ≡ finished h (w .opened) (w .best) → Ending h budget w
 
-pub outcome : (h : Hall) (budget : ℕ) (w : Walked) → Outcome h budget w
-outcome h budget w = go (ltb budget (w .opened)) refl
+pub ending : (h : Hall) (budget : ℕ) (w : Walked) → Ending h budget w
+ending h budget w = go (ltb budget (w .opened)) refl
   where
-    go : (t : Bool) → ltb budget (w .opened) ≡ t → Outcome h budget w
+    go : (t : Bool) → ltb budget (w .opened) ≡ t → Ending h budget w
     go true u = let l = ltb-true budget (w .opened) u in stops l (over h budget w l)
     go false u = let l = ltb-false budget (w .opened) u in ends l (enough h budget w l)
 
@@ -53,9 +53,9 @@ module _ (ws : List ℤ) (room : ℕ) where
   answer-is h budget s = ap (answerRead budget) (accepted room ws h s)
 
   pub spent-exactly : (h : Hall) (budget : ℕ) → SheetOf h ws room → (answer ws budget room ≡ spent budget) ↔ (budget < walkHall h .opened)
-  spent-exactly h budget s = (λ e. go (outcome h budget (walkHall h)) (subst Finished (sym (answer-is h budget s) ∙ e)), λ l. answer-is h budget s ∙ over h budget (walkHall h) l)
+  spent-exactly h budget s = (λ e. go (ending h budget (walkHall h)) (subst Finished (sym (answer-is h budget s) ∙ e)), λ l. answer-is h budget s ∙ over h budget (walkHall h) l)
     where
-      go : Outcome h budget (walkHall h) → (Finished (within h budget (walkHall h)) → ⊥) → budget < walkHall h .opened
+      go : Ending h budget (walkHall h) → (Finished (within h budget (walkHall h)) → ⊥) → budget < walkHall h .opened
       go (stops l e) f = l
       go (ends l e) f = absurd (f (subst Finished (sym e) (finished-is h (walkHall h .opened) (walkHall h .best))))
 
@@ -63,37 +63,37 @@ module _ (ws : List ℤ) (room : ℕ) where
   unfolding answer
   spent-number budget n e = read (decode room ws) e
     where
-      walked : (h : Hall) → Outcome h budget (walkHall h) → within h budget (walkHall h) ≡ spent n → n ≡ budget
+      walked : (h : Hall) → Ending h budget (walkHall h) → within h budget (walkHall h) ≡ spent n → n ≡ budget
       walked h (stops l u) e = cc
       walked h (ends l u) e = absurd (subst Finished (sym u ∙ e) (finished-is h (walkHall h .opened) (walkHall h .best)))
 
       read : (x : Read Hall) → answerRead budget x ≡ spent n → n ≡ budget
       read (bad f i) e = absurd (subst Finished e tt)
-      read (got h j) e = walked h (outcome h budget (walkHall h)) e
+      read (got h j) e = walked h (ending h budget (walkHall h)) e
 
   pub count-within : (budget : ℕ) → nodesOf (answer ws budget room) ≤ budget
   unfolding answer
   count-within budget = read (decode room ws)
     where
-      walked : (h : Hall) → Outcome h budget (walkHall h) → nodesOf (within h budget (walkHall h)) ≤ budget
+      walked : (h : Hall) → Ending h budget (walkHall h) → nodesOf (within h budget (walkHall h)) ≤ budget
       walked h (stops l u) = rw u (omega arith)
       walked h (ends l u) = rw (u, finished-nodes h (walkHall h .opened) (walkHall h .best)) l
 
       read : (x : Read Hall) → nodesOf (answerRead budget x) ≤ budget
       read (bad f i) = zero-le
-      read (got h j) = walked h (outcome h budget (walkHall h))
+      read (got h j) = walked h (ending h budget (walkHall h))
 
   pub same-under-more : (budget more : ℕ) → Finished (answer ws budget room) → budget ≤ more → answer ws more room ≡ answer ws budget room
   unfolding answer
   same-under-more budget more f l = read (decode room ws) f
     where
-      walked : (h : Hall) → Outcome h budget (walkHall h) → Finished (within h budget (walkHall h)) → within h more (walkHall h) ≡ within h budget (walkHall h)
+      walked : (h : Hall) → Ending h budget (walkHall h) → Finished (within h budget (walkHall h)) → within h more (walkHall h) ≡ within h budget (walkHall h)
       walked h (stops k u) f = absurd (subst Finished u f)
       walked h (ends k u) f = enough h more (walkHall h) (omega arith) ∙ sym u
 
       read : (x : Read Hall) → Finished (answerRead budget x) → answerRead more x ≡ answerRead budget x
       read (bad c i) f = refl
-      read (got h j) f = walked h (outcome h budget (walkHall h)) f
+      read (got h j) f = walked h (ending h budget (walkHall h)) f
 
   -- where the power sum is at most the budget, spent is never said
   pub never-spent : (h : Hall) (budget : ℕ) → SheetOf h ws room → boundOf h ≤ budget → Finished (answer ws budget room)
@@ -110,10 +110,10 @@ module _ (ws : List ℤ) (room : ℕ) where
       ended h n noneYet e = absurd (let z : _≡_ {A = ℕ} 0 1 = cc in omega arith)
       ended h n (soFar p) e = absurd (let z : _≡_ {A = ℕ} 0 1 = cc in omega arith)
 
-      walked : (h : Hall) → Outcome h budget (walkHall h) → within h budget (walkHall h) ≡ refused f i → within h other (walkHall h) ≡ refused f i
+      walked : (h : Hall) → Ending h budget (walkHall h) → within h budget (walkHall h) ≡ refused f i → within h other (walkHall h) ≡ refused f i
       walked h (stops l u) e = absurd (let z : _≡_ {A = ℕ} 0 1 = cc in omega arith)
       walked h (ends l u) e = sym (ended h (walkHall h .opened) (walkHall h .best) (sym u ∙ e))
 
       read : (x : Read Hall) → answerRead budget x ≡ refused f i → answerRead other x ≡ refused f i
       read (bad c p) e = e
-      read (got h j) e = walked h (outcome h budget (walkHall h)) e
+      read (got h j) e = walked h (ending h budget (walkHall h)) e

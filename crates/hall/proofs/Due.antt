@@ -1,6 +1,6 @@
 -- The decoder goes along what the words are due to be.
 --
--- In order: a word at a place, and what is due after it; how far a sheet is right (`Reached`) and where it stops (`Stopped`);
+-- In order: a word at a place, and what is due after it; how far a sheet is right (`RightUpTo`) and where it stops (`Stopped`);
 -- from where something is due, each reader, from a word to a hall, either leads to where the next is due or stops (`Tracks`,
 -- `hall-tracks`); no sheet is stopped in two ways (`stopped-only`), or stopped and whole (`whole-not-stopped`). Assumes nothing.
 use mathlib.Core.Path.{_≡_, refl, sym, _∙_, ap}
@@ -17,8 +17,8 @@ use lib.Dec.{leb, ltb}
 use borrow.Author.Tests.{le-leb}
 use Rattle.hall.specs.Hall.{Entry}
 use Rattle.hall.specs.Reading.{Fault, tooShort, badCount, Read, bad, got, Reader, then, _>>=_, asRead, atWord, word, onlyIf, upTo, asEntry, times, cost, entry, rule, hall}
-use Rattle.hall.specs.Due.{Due, deviceCount, deviceCost, ruleCount, ruleWidth, ruleEntry, nothingMore, costsDue, rulesDue, entriesDue, next, dueAfter, due, fromZeroTo, inRange, faultOf, rightAt, RightBefore, FirstWrong, EndsTooSoon}
-use Rattle.hall.proofs.Cases.{both, Tri, below, level, above, tri}
+use Rattle.hall.specs.Due.{Due, deviceCount, deviceCost, ruleCount, ruleWidth, ruleEntry, nothingMore, costsDue, rulesDue, entriesDue, next, dueAfter, due, fromZeroTo, inRangeOf, faultFor, rightAt, RightBefore, FirstWrong, EndsTooSoon}
+use Rattle.lists.proofs.Cases.{both, Tri, below, level, above, tri}
 
 -- ── places ──
 word-at : (ws : List ℤ) (i : ℕ) (w : ℤ) → getElem? ws i ≡ some w → (i < length ws) × (getD ws i (pos 0) ≡ w)
@@ -38,7 +38,7 @@ due-step d (w ∷ ws) zero l = refl
 due-step d (w ∷ ws) (suc i) l = due-step (next d w) ws i (omega arith)
 
 -- ── how far the sheet is right, and where it stops ──
-pub record Reached (ws : List ℤ) (i : ℕ) (d : Due) : Type 0 where
+pub record RightUpTo (ws : List ℤ) (i : ℕ) (d : Due) : Type 0 where
   pub short : length ws ≤ 16384
   pub inside : i ≤ length ws
   pub right : RightBefore ws i
@@ -49,11 +49,11 @@ Stopped ws f i = (FirstWrong f i ws × (due (take i ws) ≢ nothingMore)) ⊎ ((
 
 abbrev pub Follows : {A : Type 0} → List ℤ → (A → Due) → Read A → Type 0
 Follows ws k (bad f i) = Stopped ws f i
-Follows ws k (got a j) = Reached ws j (k a)
+Follows ws k (got a j) = RightUpTo ws j (k a)
 
 -- from where d is due, the reader leads to where `k` of its value is due
 abbrev pub Tracks : {A : Type 0} → Reader A → Due → (A → Due) → Type 0
-Tracks r d k = (ws : List ℤ) (i : ℕ) → Reached ws i d → Follows ws k (r ws i)
+Tracks r d k = (ws : List ℤ) (i : ℕ) → RightUpTo ws i d → Follows ws k (r ws i)
 
 then-tracks : {A B : Type 0} (r : Reader A) (s : A → Reader B) (d : Due) (k : A → Due) (l : B → Due) → Tracks r d k → ((a : A) → Tracks (s a) (k a) l) → Tracks (r >>= s) d l
 then-tracks {A} r s d k l t u ws i at = go (r ws i) (t ws i at)
@@ -64,11 +64,11 @@ then-tracks {A} r s d k l t u ws i at = go (r ws i) (t ws i at)
 
 -- one word: its reader and the range of what is due agree
 abbrev Agrees : {A : Type 0} → Due → (A → Due) → ℤ → Option A → Type 0
-Agrees d k w none = inRange d w ≡ false
-Agrees d k w (some a) = (inRange d w ≡ true) × (next d w ≡ k a)
+Agrees d k w none = inRangeOf d w ≡ false
+Agrees d k w (some a) = (inRangeOf d w ≡ true) × (next d w ≡ k a)
 
 -- the word at a place that was reached, where it is right
-one-right : (ws : List ℤ) (i : ℕ) (d : Due) (w : ℤ) (d′ : Due) → Reached ws i d → getElem? ws i ≡ some w → inRange d w ≡ true → next d w ≡ d′ → Reached ws (suc i) d′
+one-right : (ws : List ℤ) (i : ℕ) (d : Due) (w : ℤ) (d′ : Due) → RightUpTo ws i d → getElem? ws i ≡ some w → inRangeOf d w ≡ true → next d w ≡ d′ → RightUpTo ws (suc i) d′
 one-right ws i d w d′ r e t n =
     let a = word-at ws i w e in
     record { short = r .short; inside = a .0; right = λ j l. go j (tri j i) l; state = due-step deviceCount ws i (a .0) ∙ rw (r .state, a .1) n }
@@ -90,23 +90,23 @@ ends nothingMore = 1
 still-due : (d : Due) → ends d ≡ 0 → d ≢ nothingMore
 still-due d n e = let z : ends d ≡ 1 = ap ends e in omega arith
 
-word-tracks : {A : Type 0} (value : ℤ → Option A) (d : Due) (k : A → Due) → ends d ≡ 0 → ((w : ℤ) → Agrees d k w (value w)) → Tracks (word (faultOf d) value) d k
+word-tracks : {A : Type 0} (value : ℤ → Option A) (d : Due) (k : A → Due) → ends d ≡ 0 → ((w : ℤ) → Agrees d k w (value w)) → Tracks (word (faultFor d) value) d k
 word-tracks {A} value d k more agrees ws i r = go (getElem? ws i) refl
   where
     n : d ≢ nothingMore
     n = still-due d more
 
-    one : (w : ℤ) (x : Option A) → getElem? ws i ≡ some w → Agrees d k w x → Follows ws k (asRead (faultOf d) i x)
-    one w none e a = let p = word-at ws i w e in inl (record { short = r .short; inside = p .0; before = r .right; wrong = rw (r .state, p .1) a; kind = ap faultOf (r .state) }, λ e. n (sym (r .state) ∙ e))
+    one : (w : ℤ) (x : Option A) → getElem? ws i ≡ some w → Agrees d k w x → Follows ws k (asRead (faultFor d) i x)
+    one w none e a = let p = word-at ws i w e in inl (record { short = r .short; inside = p .0; before = r .right; wrong = rw (r .state, p .1) a; kind = ap faultFor (r .state) }, λ e. n (sym (r .state) ∙ e))
     one w (some b) e a = one-right ws i d w (k b) r e (a .0) (a .1)
 
-    go : (x : Option ℤ) → getElem? ws i ≡ x → Follows ws k (atWord (faultOf d) value ws i x)
+    go : (x : Option ℤ) → getElem? ws i ≡ x → Follows ws k (atWord (faultFor d) value ws i x)
     go none e =
         let l : i ≡ length ws = let a = r .inside in omega (arith, no-word ws i e) in
         inr (refl, record { short = r .short; before = λ j u. r .right j (omega arith); more = λ e. n (sym (r .state) ∙ ap (λ (j : ℕ). due (take j ws)) l ∙ ap due (take-length ws) ∙ e); place = refl })
     go (some w) e = one w (value w) e (agrees w)
 
-number-tracks : (most : ℕ) (d : Due) (k : ℕ → Due) → ends d ≡ 0 → ((w : ℤ) → inRange d w ≡ fromZeroTo most w) → ((n : ℕ) → next d (pos n) ≡ k n) → Tracks (word (faultOf d) (upTo most)) d k
+number-tracks : (most : ℕ) (d : Due) (k : ℕ → Due) → ends d ≡ 0 → ((w : ℤ) → inRangeOf d w ≡ fromZeroTo most w) → ((n : ℕ) → next d (pos n) ≡ k n) → Tracks (word (faultFor d) (upTo most)) d k
 number-tracks most d k more r n = word-tracks (upTo most) d k more agrees
   where
     agrees : (w : ℤ) → Agrees d k w (upTo most w)
@@ -171,7 +171,7 @@ stopped-only ws f g i j (inl (w, n)) (inl (v, k)) = go (tri i j)
   where
     go : Tri i j → (f ≡ g) × (i ≡ j)
     go (below u) = right-wrong f i (v .before) u w
-    go (level u) = (sym (w .kind) ∙ ap (λ (j : ℕ). faultOf (due (take j ws))) u ∙ v .kind, u)
+    go (level u) = (sym (w .kind) ∙ ap (λ (j : ℕ). faultFor (due (take j ws))) u ∙ v .kind, u)
     go (above u) = right-wrong g j (w .before) u v
 stopped-only ws f g i j (inl (w, n)) (inr (e, s)) = right-wrong f i (s .before) (w .inside) w
 stopped-only ws f g i j (inr (e, s)) (inl (w, n)) = right-wrong g j (s .before) (w .inside) w
@@ -181,7 +181,7 @@ stopped-only ws f g i j (inr (e, s)) (inr (u, t)) = (e ∙ sym u, s .place ∙ s
 nothing-right : {A : Type 0} (ws : List ℤ) (i : ℕ) → due (take i ws) ≡ nothingMore → rightAt ws i ≡ true → A
 nothing-right ws i e t = both t (rw e)
 
-pub whole-not-stopped : (ws : List ℤ) (f : Fault) (i j : ℕ) → Reached ws j nothingMore → Stopped ws f i → ⊥
+pub whole-not-stopped : (ws : List ℤ) (f : Fault) (i j : ℕ) → RightUpTo ws j nothingMore → Stopped ws f i → ⊥
 whole-not-stopped ws f i j r (inl (w, n)) = go (tri i j)
   where
     go : Tri i j → ⊥

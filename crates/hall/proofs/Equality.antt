@@ -15,7 +15,8 @@ use lib.ListN.{length, replicate}
 use Rattle.hall.specs.Hall.{Entry, Rule, Hall, Plan, isFree, hold, firstUnmet}
 use Rattle.hall.specs.Order.{ifHeld, costOf, heldOf}
 use Rattle.hall.specs.Walk.{Best, noneYet, soFar, Walker, still, after, entryBy, through, opening, nodeBy, node, walk, walkFrom, start, walkHall}
-use Rattle.hall.specs.Ranges.{Each, InRange}
+use Rattle.lists.specs.Lists.{Each}
+use Rattle.hall.specs.Ranges.{HallInRange}
 use Rattle.hall.specs.Bound.{widest, depth, powerSum, EqualityCase}
 use Rattle.hall.proofs.Plans.{hold-held, hold-length, held-all, start-plan, start-held}
 use Rattle.hall.proofs.Rules.{In, first, later, AllFree}
@@ -24,7 +25,7 @@ use Rattle.hall.proofs.Shut.{All, not-shut}
 use Rattle.hall.proofs.Walks.{child-fuel, no-child}
 use Rattle.hall.proofs.Least.{keep-all}
 use Rattle.hall.proofs.Bound.{horner, opens-one, opens-bounded}
-use Rattle.hall.proofs.Apart.{Alone, alone, Fit, start-fit, fit-hold, first-free, none-unmet}
+use Rattle.hall.proofs.Apart.{Alone, apart-alone, Fit, start-fit, fit-hold, first-free, none-unmet}
 
 -- with equal costs the cost is the held number's multiple
 cost-level : (c n : ℕ) (p : Plan) → length p ≤ n → costOf (replicate n c) p ≡ heldOf p * c
@@ -123,7 +124,7 @@ exactly-zero h w =
     rw powers-zero (omega (arith, opens-one h))
 
 -- ── a wider rule ──
-exactly-more : (h : Hall) (j : ℕ) → InRange h → EqualityCase h (suc j) → walkHall h .opened ≡ powerSum (suc j) (depth h)
+exactly-more : (h : Hall) (j : ℕ) → HallInRange h → EqualityCase h (suc j) → walkHall h .opened ≡ powerSum (suc j) (depth h)
 unfolding walkHall walkFrom start
 exactly-more h j r q = walked .0 ∙ reached
   where
@@ -131,7 +132,7 @@ exactly-more h j r q = walked .0 ∙ reached
     n = length (h .costs)
 
     o : Alone (h .rules)
-    o = alone (h .rules) (q .apart)
+    o = apart-alone (h .rules) (q .apart)
 
     fit : Fit (start h) (h .rules) × (unmet (start h) (h .rules) ≡ length (h .rules))
     fit = start-fit n (h .rules) o (r .good)
@@ -152,6 +153,6 @@ exactly-more h j r q = walked .0 ∙ reached
         rw (e, fit .1)
 
 -- the claim
-pub opens-exactly : (h : Hall) (k : ℕ) → InRange h → EqualityCase h k → walkHall h .opened ≡ powerSum k (depth h)
+pub opens-exactly : (h : Hall) (k : ℕ) → HallInRange h → EqualityCase h k → walkHall h .opened ≡ powerSum k (depth h)
 opens-exactly h zero r q = exactly-zero h (q .wide)
 opens-exactly h (suc j) r q = exactly-more h j r q

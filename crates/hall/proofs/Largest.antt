@@ -12,12 +12,13 @@ use lib.Seq.{ext-getD}
 use borrow.Author.Tests.{eqb-true}
 use Rattle.hall.specs.Hall.{at1, Rule, Plan, holds, meetsRule, meetsAll}
 use Rattle.hall.specs.Order.{heldFrom, sumOf, MeetsSheet, LeastPlan}
-use Rattle.hall.specs.Ranges.{Each, RuleInRange, InRange, wordsOf, ruleWords, words}
+use Rattle.lists.specs.Lists.{Each}
+use Rattle.hall.specs.Ranges.{RuleInRange, HallInRange, wordsOf, ruleWords, words}
 use Rattle.hall.specs.Bound.{entries, absent, once, powerSum, EqualityCase}
 use Rattle.hall.specs.Answer.{least, answer}
 use Rattle.hall.specs.Table.{singles, largest}
-use Rattle.hall.proofs.Cases.{and-both, Tri, below, level, above, tri}
-use Rattle.hall.proofs.Each.{each-append, each-replicate}
+use Rattle.lists.proofs.Cases.{and-both, Tri, below, level, above, tri}
+use Rattle.lists.proofs.Each.{each-append, each-replicate}
 use Rattle.hall.proofs.Order.{better-irreflexive}
 use Rattle.hall.proofs.Equality.{opens-exactly}
 use Rattle.hall.proofs.Answers.{answered-only}
@@ -33,7 +34,7 @@ unfolding singles
 singles-count zero = refl
 singles-count (suc n) = omega (arith, length-append (singles n) ((at1 n ∷ []) ∷ []), singles-count n)
 
-in-range : InRange largest
+in-range : HallInRange largest
 in-range = record {
   devices = omega (arith, length-replicate {A = ℕ} 200 1000000000);
   cheap = each-replicate (λ c. c ≤ 1000000000) 200 1000000000 (omega arith);

@@ -15,7 +15,7 @@ use lib.ListN.{length, replicate}
 use Rattle.hall.specs.Hall.{Entry, Rule, Hall, Plan, PlanOf, isFree, hold, meetsAll, firstUnmet}
 use Rattle.hall.specs.Order.{heldOf, rank, better, MeetsSheet, LeastPlan, NoPlan}
 use Rattle.hall.specs.Walk.{Best, noneYet, soFar, Walker, keep, shut, still, after, entryBy, through, opening, nodeBy, node, walk, walkFrom, start, walkHall}
-use Rattle.hall.proofs.Cases.{test, fails}
+use Rattle.lists.proofs.Cases.{test, fails}
 use Rattle.hall.proofs.Order.{not-after, one-way, neither-better}
 use Rattle.hall.proofs.Plans.{Extends, extends-none, extended, start-plan, hold-plan}
 use Rattle.hall.proofs.Rules.{Branch, here, there}

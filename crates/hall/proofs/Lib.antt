@@ -1,7 +1,5 @@
 -- The theorems, in the order of the argument. AnswerTables stands apart: it computes the tables of known rows.
 pub mod AnswerTables
-pub mod Cases
-pub mod Each
 pub mod Order
 pub mod Plans
 pub mod Rules

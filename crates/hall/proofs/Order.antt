@@ -14,7 +14,7 @@ use native.Mathlib.Omega.{arith}
 use borrow.Author.Tests.{lt-ltb, le-ltb, eq-eqb, ne-eqb}
 use Rattle.hall.specs.Hall.{Plan}
 use Rattle.hall.specs.Order.{less, rank, better}
-use Rattle.hall.proofs.Cases.{test, both, fails, Tri, below, level, above, tri}
+use Rattle.lists.proofs.Cases.{test, both, fails, Tri, below, level, above, tri}
 
 pub less-below : (x y : ℕ) (a b : List ℕ) → x < y → less (x ∷ a) (y ∷ b) ≡ true
 unfolding less

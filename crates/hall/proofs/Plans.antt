@@ -16,7 +16,7 @@ use borrow.Author.Tests.{eqb-true, eq-eqb}
 use Rattle.hall.specs.Hall.{Entry, at1, at0, device, mark, Hall, Plan, PlanOf, holds, isFree, hold}
 use Rattle.hall.specs.Order.{ifHeld, costOf, heldOf, less, rank, better}
 use Rattle.hall.specs.Walk.{start}
-use Rattle.hall.proofs.Cases.{Tri, below, level, above, tri}
+use Rattle.lists.proofs.Cases.{Tri, below, level, above, tri}
 use Rattle.hall.proofs.Order.{less-level, less-above, irreflexive}
 
 pub data Extends : Plan → Plan → Type 0 where

@@ -15,7 +15,8 @@ use lib.IntN.{ℤ, pos, negsuc}
 use lib.Dec.{leb, ltb}
 use borrow.Author.Tests.{leb-true, ltb-true}
 use Rattle.hall.specs.Hall.{Entry, at1, at0, device, Rule}
-use Rattle.hall.specs.Ranges.{Each, RuleInRange, InRange, wordsOf, numberWords, entryWords, ruleWords, words}
+use Rattle.lists.specs.Lists.{Each}
+use Rattle.hall.specs.Ranges.{RuleInRange, HallInRange, wordsOf, numberWords, entryWords, ruleWords, words}
 use Rattle.hall.specs.Reading.{Fault, badCount, badCost, badEntry, Read, bad, got, Reader, then, _>>=_, yield, asRead, atWord, word, onlyIf, upTo, asEntry, times, cost, entry, rule, hall}
 
 -- ── places ──
@@ -87,29 +88,29 @@ word-takes {A} c value f P v ws i a j e = go (getElem? ws i) refl e
     go none t e = clash e
     go (some w) t e = one w (value w) refl t e
 
-absent : {A B : Type 0} {a : A} → _≡_ {A = Option A} none (some a) → B
-absent e = absurd (let z : _≡_ {A = ℕ} 0 1 = cc in omega arith)
+no-value : {A B : Type 0} {a : A} → _≡_ {A = Option A} none (some a) → B
+no-value e = absurd (let z : _≡_ {A = ℕ} 0 1 = cc in omega arith)
 
 up-to-values : (most : ℕ) → Values (upTo most) numberWords (λ n. n ≤ most)
 up-to-values most (pos n) a e = go (leb n most) refl e
   where
     go : (t : Bool) → leb n most ≡ t → onlyIf t n ≡ some a → (numberWords a ≡ pos n ∷ []) × (a ≤ most)
     go true u e = let z : n ≡ a = cc in (rw z, rw z at (leb-true n most u))
-    go false u e = absent e
-up-to-values most (negsuc n) a e = absent e
+    go false u e = no-value e
+up-to-values most (negsuc n) a e = no-value e
 
 entry-values : (n : ℕ) → Values (asEntry n) entryWords (λ e. device e < n)
-entry-values n (pos zero) a e = absent e
+entry-values n (pos zero) a e = no-value e
 entry-values n (pos (suc v)) a e = go (ltb v n) refl e
   where
     go : (t : Bool) → ltb v n ≡ t → onlyIf t (at1 v) ≡ some a → (entryWords a ≡ pos (suc v) ∷ []) × (device a < n)
     go true u e = let z : at1 v ≡ a = cc in subst (λ (a : Entry). (entryWords a ≡ pos (suc v) ∷ []) × (device a < n)) z (refl, ltb-true v n u)
-    go false u e = absent e
+    go false u e = no-value e
 entry-values n (negsuc v) a e = go (ltb v n) refl e
   where
     go : (t : Bool) → ltb v n ≡ t → onlyIf t (at0 v) ≡ some a → (entryWords a ≡ negsuc v ∷ []) × (device a < n)
     go true u e = let z : at0 v ≡ a = cc in subst (λ (a : Entry). (entryWords a ≡ negsuc v ∷ []) × (device a < n)) z (refl, ltb-true v n u)
-    go false u e = absent e
+    go false u e = no-value e
 
 module _ {A : Type 0} (r : Reader A) (f : A → List ℤ) (P : A → Type 0) (takes : Takes r f P) where
   one-more : {k i j₁ j₂ : ℕ} {ws : List ℤ} (a : A) (l : List A) → Took f P ws i a j₁ → Took (wordsOf f) (λ l. (length l ≡ k) × Each P l) ws j₁ l j₂ → Took (wordsOf f) (λ l. (length l ≡ suc k) × Each P l) ws i (a ∷ l) j₂
@@ -151,7 +152,7 @@ hall-made : (ws : List ℤ) (cs : List ℕ) (rs : List Rule) (n m i j₁ j₂ j�
     → Took (wordsOf numberWords) (λ l. (length l ≡ n) × Each (λ c. c ≤ 1000000000) l) ws j₁ cs j₂
     → Took numberWords (λ n. n ≤ 2000) ws j₂ m j₃
     → Took (wordsOf ruleWords) (λ l. (length l ≡ m) × Each (RuleInRange n) l) ws j₃ rs j
-    → Took words InRange ws i (record { costs = cs; rules = rs }) j
+    → Took words HallInRange ws i (record { costs = cs; rules = rs }) j
 unfolding words
 hall-made ws cs rs n m i j₁ j₂ j₃ j a b c d =
     let na = a .next in
@@ -168,14 +169,14 @@ hall-made ws cs rs n m i j₁ j₂ j₃ j a b c d =
       good = record { devices = omega arith; cheap = b .good .1; count = omega arith; good = rw lc (d .good .1) };
     }
 
-pub hall-takes : Takes hall words InRange
+pub hall-takes : Takes hall words HallInRange
 unfolding hall
 hall-takes ws i h j e =
     let w = reads (word badCount (upTo 200)) _ ws i h j e in
     let x = reads (times (w .value) cost) _ ws (w .place) h j (w .two) in
     let y = reads (word badCount (upTo 2000)) _ ws (x .place) h j (x .two) in
     let z = reads (times (y .value) (rule (w .value))) _ ws (y .place) h j (y .two) in
-    moved words InRange ws i (z .two) (hall-made ws (x .value) (z .value) (w .value) (y .value) i (w .place) (x .place) (y .place) (z .place)
+    moved words HallInRange ws i (z .two) (hall-made ws (x .value) (z .value) (w .value) (y .value) i (w .place) (x .place) (y .place) (z .place)
     (count-takes 200 ws i (w .value) (w .place) (w .one))
     (costs-take (w .value) ws (w .place) (x .value) (x .place) (x .one))
     (count-takes 2000 ws (x .place) (y .value) (y .place) (y .one))

@@ -15,22 +15,22 @@ use lib.IntN.{ℤ, pos}
 use lib.Dec.{ltb}
 use borrow.Author.Tests.{ltb-true, ltb-false, lt-ltb, le-ltb}
 use Rattle.hall.specs.Hall.{Hall}
-use Rattle.hall.specs.Ranges.{InRange, words, SheetOf}
+use Rattle.hall.specs.Ranges.{HallInRange, words, SheetOf}
 use Rattle.hall.specs.Reading.{Fault, tooShort, badCount, badCost, badEntry, extraWords, smallRoom, tooLong, Read, bad, got, then, hall, endedBy, ended, roomBy, hasRoom, decodeBy, decode}
-use Rattle.hall.specs.Due.{Due, deviceCount, deviceCost, ruleCount, ruleWidth, ruleEntry, nothingMore, dueAfter, due, faultOf, FirstWrong, WordsAfter, Reason}
+use Rattle.hall.specs.Due.{Due, deviceCount, deviceCost, ruleCount, ruleWidth, ruleEntry, nothingMore, dueAfter, due, faultFor, FirstWrong, WordsAfter, Reason}
 use Rattle.hall.proofs.Reading.{hall-takes}
 use Rattle.hall.proofs.Sheets.{hall-gives, accepted}
-use Rattle.hall.proofs.Due.{Reached, Stopped, Follows, hall-tracks, stopped-only, whole-not-stopped}
+use Rattle.hall.proofs.Due.{RightUpTo, Stopped, Follows, hall-tracks, stopped-only, whole-not-stopped}
 
 -- ── what stopped the hall's reader ──
 stopped-reason : (ws : List ℤ) (room : ℕ) (f : Fault) (i : ℕ) → Stopped ws f i → Reason f i ws room
 stopped-reason ws room f i (inr (e, s)) = subst (λ (f : Fault). Reason f i ws room) (sym e) s
 stopped-reason ws room f i (inl (w, n)) = subst (λ (f : Fault). Reason f i ws room) (w .kind) (go (due (take i ws)) refl)
   where
-    wrong : (d : Due) → due (take i ws) ≡ d → FirstWrong (faultOf d) i ws
-    wrong d e = record { short = w .short; inside = w .inside; before = w .before; wrong = w .wrong; kind = ap faultOf e }
+    wrong : (d : Due) → due (take i ws) ≡ d → FirstWrong (faultFor d) i ws
+    wrong d e = record { short = w .short; inside = w .inside; before = w .before; wrong = w .wrong; kind = ap faultFor e }
 
-    go : (d : Due) → due (take i ws) ≡ d → Reason (faultOf d) i ws room
+    go : (d : Due) → due (take i ws) ≡ d → Reason (faultFor d) i ws room
     go deviceCount e = wrong deviceCount e
     go (deviceCost k left) e = wrong (deviceCost k left) e
     go (ruleCount k) e = wrong (ruleCount k) e
@@ -40,7 +40,7 @@ stopped-reason ws room f i (inl (w, n)) = subst (λ (f : Fault). Reason f i ws r
 
 -- a first wrong word of a kind other than 15
 reason-stopped : (ws : List ℤ) (f : Fault) (i : ℕ) → FirstWrong f i ws → f ≢ extraWords → Stopped ws f i
-reason-stopped ws f i w n = inl (w, λ e. n (sym (w .kind) ∙ ap faultOf e))
+reason-stopped ws f i w n = inl (w, λ e. n (sym (w .kind) ∙ ap faultFor e))
 
 -- ── the verdict on a sheet ──
 abbrev pub Verdict : List ℤ → ℕ → Read Hall → Type 0
@@ -48,7 +48,7 @@ Verdict ws room (bad f i) = Reason f i ws room
 Verdict ws room (got h j) = SheetOf h ws room × (j ≡ length ws)
 
 module _ (ws : List ℤ) (room : ℕ) where
-  reached : length ws ≤ 16384 → Reached ws 0 deviceCount
+  reached : length ws ≤ 16384 → RightUpTo ws 0 deviceCount
   unfolding dueAfter
   reached s = record { short = s; inside = omega arith; right = λ j l. absurd (omega arith); state = refl }
 
@@ -104,7 +104,7 @@ module _ (ws : List ℤ) (room : ℕ) where
       go (got g j) r = absurd (whole-not-stopped ws f i j r h)
 
   -- the reader gives the hall with which the sheet begins
-  hall-front : (h : Hall) (rest : List ℤ) → InRange h → ws ≡ words h ++ rest → hall ws 0 ≡ got h (length (words h))
+  hall-front : (h : Hall) (rest : List ℤ) → HallInRange h → ws ≡ words h ++ rest → hall ws 0 ≡ got h (length (words h))
   hall-front h rest g e = hall-gives h g ws 0 rest e ∙ ap (λ (j : ℕ). got h j) (omega arith)
 
   pub verdict-only : (x : Read Hall) → Verdict ws room x → decode room ws ≡ x

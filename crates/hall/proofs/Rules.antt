@@ -16,9 +16,9 @@ use native.Mathlib.Omega.{arith}
 use lib.ListN.{getD}
 use borrow.Author.Tests.{eqb-true, eq-eqb}
 use Rattle.hall.specs.Hall.{Entry, at1, at0, device, Rule, Plan, holds, isFree, hold, meetsRule}
-use Rattle.hall.specs.Ranges.{Each}
+use Rattle.lists.specs.Lists.{Each}
 use Rattle.hall.specs.Bound.{absent, once}
-use Rattle.hall.proofs.Cases.{test, both, or-false, or-right, and-both}
+use Rattle.lists.proofs.Cases.{test, both, or-false, or-right, and-both}
 use Rattle.hall.proofs.Plans.{Extends, end, free, same, extends-hold, held-or-free, hold-holds}
 
 -- the first entry of a rule that q holds: its device is free under p, and with it held q still extends the plan

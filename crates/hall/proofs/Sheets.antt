@@ -11,7 +11,8 @@ use lib.ListN.{length, drop, length-append}
 use lib.IntN.{ℤ, pos}
 use borrow.Author.Tests.{le-leb, lt-ltb, le-ltb}
 use Rattle.hall.specs.Hall.{at1, at0, device, Hall}
-use Rattle.hall.specs.Ranges.{Each, RuleInRange, InRange, wordsOf, numberWords, entryWords, ruleWords, words, SheetOf}
+use Rattle.lists.specs.Lists.{Each}
+use Rattle.hall.specs.Ranges.{RuleInRange, HallInRange, wordsOf, numberWords, entryWords, ruleWords, words, SheetOf}
 use Rattle.hall.specs.Reading.{Fault, badCount, badCost, badEntry, got, Reader, _>>=_, yield, word, upTo, asEntry, times, cost, entry, rule, hall, ended, hasRoom, decodeBy, decode}
 use Rattle.hall.proofs.Reading.{drop-word, past, reads-on}
 
@@ -47,7 +48,7 @@ rule-gives n r g ws i rest e =
     ∙ times-gives (entry n) entryWords (λ e. device e < n) (entry-gives n) r (g .named) ws (i + 1) rest (past ws i (pos (length r) ∷ []) (wordsOf entryWords r ++ rest) e)
     ∙ ap (λ (j : ℕ). got r j) (omega arith)
 
-pub hall-gives : Gives hall words InRange
+pub hall-gives : Gives hall words HallInRange
 unfolding hall words
 hall-gives h g ws i rest e =
     let cs = wordsOf numberWords (h .costs) in

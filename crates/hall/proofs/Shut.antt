@@ -14,7 +14,7 @@ use native.Mathlib.Omega.{arith}
 use Rattle.hall.specs.Hall.{Hall, Plan, meetsAll}
 use Rattle.hall.specs.Order.{costOf, heldOf, less, rank, better}
 use Rattle.hall.specs.Walk.{Best, noneYet, soFar, oneMore, closes, shut}
-use Rattle.hall.proofs.Cases.{both, Tri, below, level, above, tri}
+use Rattle.lists.proofs.Cases.{both, Tri, below, level, above, tri}
 use Rattle.hall.proofs.Order.{First, head, tail, first, less-level, less-above, irreflexive}
 use Rattle.hall.proofs.Plans.{Extends, cost-mono, held-more, dearer}
 

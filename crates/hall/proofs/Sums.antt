@@ -10,7 +10,8 @@ use native.Mathlib.Omega.{arith}
 use lib.ListN.{length, getD, drop}
 use Rattle.hall.specs.Hall.{Hall, Plan, PlanOf}
 use Rattle.hall.specs.Order.{ifHeld, costOf, heldOf, heldBy, heldFrom, heldEntries, sumOf}
-use Rattle.hall.specs.Ranges.{Each, InRange}
+use Rattle.lists.specs.Lists.{Each}
+use Rattle.hall.specs.Ranges.{HallInRange}
 
 -- ── the sums ──
 cost-none : (cs : List ℕ) → costOf cs [] ≡ 0
@@ -64,5 +65,5 @@ cost-most most (c ∷ cs) a [] = zero-le
 cost-most most (c ∷ cs) a (zero ∷ p) = omega (arith, suc-mul (length cs) most, cost-most most cs (a .1) p)
 cost-most most (c ∷ cs) a (suc x ∷ p) = let b = a .0 in omega (arith, suc-mul (length cs) most, cost-most most cs (a .1) p)
 
-pub cost-in-range : (h : Hall) → InRange h → (p : Plan) → costOf (h .costs) p ≤ 200000000000
+pub cost-in-range : (h : Hall) → HallInRange h → (p : Plan) → costOf (h .costs) p ≤ 200000000000
 cost-in-range h r p = le-trans (cost-most 1000000000 (h .costs) (r .cheap) p) (mul-le-mul-right 1000000000 (r .devices))

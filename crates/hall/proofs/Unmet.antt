@@ -10,7 +10,7 @@ use Prim.Native.Nat.{ℕ, suc, _≤_, _<_, zero-le, suc-le-suc}
 use native.Mathlib.Omega.{arith}
 use lib.ListN.{length}
 use Rattle.hall.specs.Hall.{Entry, Rule, Plan, isFree, hold, meetsRule, meetsAll, firstUnmet}
-use Rattle.hall.proofs.Cases.{test, and-both}
+use Rattle.lists.proofs.Cases.{test, and-both}
 use Rattle.hall.proofs.Plans.{Extends, hold-extends}
 use Rattle.hall.proofs.Rules.{Branch, In, branch, meets-mono, hold-meets}
 

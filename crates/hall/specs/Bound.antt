@@ -8,7 +8,7 @@ use Prim.Native.Nat.{ℕ, zero, suc, _+_, _^_, min, max}
 use lib.ListN.{length, replicate}
 use lib.Dec.{eqb}
 use Rattle.hall.specs.Hall.{Entry, device, Rule, Hall}
-use Rattle.hall.specs.Ranges.{Each}
+use Rattle.lists.specs.Lists.{Each}
 
 -- "The widest rule's width is k, 0 where there are no rules"
 unfoldable pub widest : List Rule → ℕ

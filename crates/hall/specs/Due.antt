@@ -12,7 +12,7 @@ use lib.ListN.{length, getD, take}
 use lib.IntN.{ℤ, pos, negsuc}
 use lib.Dec.{leb}
 use Rattle.hall.specs.Hall.{Hall}
-use Rattle.hall.specs.Ranges.{InRange, words}
+use Rattle.hall.specs.Ranges.{HallInRange, words}
 use Rattle.hall.specs.Reading.{Fault, tooShort, badCount, badCost, badEntry, extraWords, smallRoom, tooLong}
 
 -- n is the number of devices, `rules` how many rules are still to come, `left` how many of the same after this word
@@ -64,26 +64,26 @@ abbrev pub fromZeroTo : ℕ → ℤ → Bool
 fromZeroTo most (pos n) = leb n most
 fromZeroTo most (negsuc n) = false
 
-abbrev pub inRange : Due → ℤ → Bool
-inRange deviceCount w = fromZeroTo 200 w
-inRange (deviceCost n left) w = fromZeroTo 1000000000 w
-inRange (ruleCount n) w = fromZeroTo 2000 w
-inRange (ruleWidth n left) w = fromZeroTo 32 w
-inRange (ruleEntry n rules left) w = leb 1 (size w) && leb (size w) n
-inRange nothingMore w = false
+abbrev pub inRangeOf : Due → ℤ → Bool
+inRangeOf deviceCount w = fromZeroTo 200 w
+inRangeOf (deviceCost n left) w = fromZeroTo 1000000000 w
+inRangeOf (ruleCount n) w = fromZeroTo 2000 w
+inRangeOf (ruleWidth n left) w = fromZeroTo 32 w
+inRangeOf (ruleEntry n rules left) w = leb 1 (size w) && leb (size w) n
+inRangeOf nothingMore w = false
 
 -- "Meaning": the kind that a word outside its range gives
-abbrev pub faultOf : Due → Fault
-faultOf deviceCount = badCount
-faultOf (deviceCost n left) = badCost
-faultOf (ruleCount n) = badCount
-faultOf (ruleWidth n left) = badCount
-faultOf (ruleEntry n rules left) = badEntry
-faultOf nothingMore = extraWords
+abbrev pub faultFor : Due → Fault
+faultFor deviceCount = badCount
+faultFor (deviceCost n left) = badCost
+faultFor (ruleCount n) = badCount
+faultFor (ruleWidth n left) = badCount
+faultFor (ruleEntry n rules left) = badEntry
+faultFor nothingMore = extraWords
 
 -- the word at a place is in the range of what it is due to be; so is each word before a place
 abbrev pub rightAt : List ℤ → ℕ → Bool
-rightAt ws i = inRange (due (take i ws)) (getD ws i (pos 0))
+rightAt ws i = inRangeOf (due (take i ws)) (getD ws i (pos 0))
 
 abbrev pub RightBefore : List ℤ → ℕ → Type 0
 RightBefore ws i = (j : ℕ) → j < i → rightAt ws j ≡ true
@@ -94,7 +94,7 @@ pub record FirstWrong (f : Fault) (i : ℕ) (ws : List ℤ) : Type 0 where
   pub inside : i < length ws
   pub before : RightBefore ws i
   pub wrong : rightAt ws i ≡ false
-  pub kind : faultOf (due (take i ws)) ≡ f
+  pub kind : faultFor (due (take i ws)) ≡ f
 
 -- 11: "sheet ends too soon | place: the sheet's length"
 pub record EndsTooSoon (i : ℕ) (ws : List ℤ) : Type 0 where
@@ -107,7 +107,7 @@ pub record EndsTooSoon (i : ℕ) (ws : List ℤ) : Type 0 where
 pub record WordsAfter (i : ℕ) (ws : List ℤ) : Type 0 where
   pub short : length ws ≤ 16384
   pub hall : Hall
-  pub ranges : InRange hall
+  pub ranges : HallInRange hall
   pub extra : ℤ
   pub rest : List ℤ
   pub sheet : ws ≡ words hall ++ (extra ∷ rest)
@@ -117,7 +117,7 @@ pub record WordsAfter (i : ℕ) (ws : List ℤ) : Type 0 where
 pub record RoomTooShort (i : ℕ) (ws : List ℤ) (room : ℕ) : Type 0 where
   pub short : length ws ≤ 16384
   pub hall : Hall
-  pub ranges : InRange hall
+  pub ranges : HallInRange hall
   pub sheet : ws ≡ words hall
   pub small : room < length (hall .costs)
   pub place : i ≡ length (hall .costs)

@@ -6,12 +6,8 @@ use mathlib.Core.List.{List, [], _∷_, _++_}
 use Prim.Native.Nat.{ℕ, suc, _≤_, _<_}
 use lib.ListN.{length}
 use lib.IntN.{ℤ, pos, negsuc}
+use Rattle.lists.specs.Lists.{Each}
 use Rattle.hall.specs.Hall.{Entry, at1, at0, device, Rule, Hall}
-
--- each element of a list has a property
-abbrev pub Each : {A : Type 0} → (A → Type 0) → List A → Type 0
-Each P [] = Unit {0}
-Each P (a ∷ l) = P a × Each P l
 
 -- "width of a rule | 0 to 32", "size of an entry without its sign | 1 to n" (devices are numbered from 0 here)
 pub record RuleInRange (n : ℕ) (r : Rule) : Type 0 where
@@ -19,7 +15,7 @@ pub record RuleInRange (n : ℕ) (r : Rule) : Type 0 where
   pub named : Each (λ e. device e < n) r
 
 -- "devices | 0 to 200", "a cost | 0 to 1,000,000,000", "rules | 0 to 2,000"
-pub record InRange (h : Hall) : Type 0 where
+pub record HallInRange (h : Hall) : Type 0 where
   pub devices : length (h .costs) ≤ 200
   pub cheap : Each (λ c. c ≤ 1000000000) (h .costs)
   pub count : length (h .rules) ≤ 2000
@@ -50,6 +46,6 @@ words h = pos (length (h .costs)) ∷ (wordsOf numberWords (h .costs) ++ (pos (l
 -- room holds a mark for each device
 pub record SheetOf (h : Hall) (ws : List ℤ) (room : ℕ) : Type 0 where
   pub sheet : ws ≡ words h
-  pub ranges : InRange h
+  pub ranges : HallInRange h
   pub short : length ws ≤ 16384
   pub fits : length (h .costs) ≤ room

@@ -16,14 +16,14 @@ pub data Fault : Type 0 where
   tooShort badCount badCost badEntry extraWords smallRoom tooLong : Fault
 
 -- "Code": the one place that turns a kind into its number
-abbrev pub codeOf : Fault → ℕ
-codeOf tooShort = 11
-codeOf badCount = 12
-codeOf badCost = 13
-codeOf badEntry = 14
-codeOf extraWords = 15
-codeOf smallRoom = 16
-codeOf tooLong = 17
+abbrev pub faultCode : Fault → ℕ
+faultCode tooShort = 11
+faultCode badCount = 12
+faultCode badCost = 13
+faultCode badEntry = 14
+faultCode extraWords = 15
+faultCode smallRoom = 16
+faultCode tooLong = 17
 
 -- what reading comes to: a refusal and its place, or a value and the place of the next word
 pub data Read (A : Type 0) : Type 0 where

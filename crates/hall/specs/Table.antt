@@ -12,7 +12,7 @@ use Rattle.hall.specs.Ranges.{wordsOf, entryWords}
 use Rattle.hall.specs.Answer.{Answer, least, none, spent, refused, answer, numbers}
 
 -- an answer as the table writes it: the code and what is returned, then the entries behind `hold`
-pub record Outcome : Type 0 where
+pub record Written : Type 0 where
   pub told : List ℕ
   pub hold : List ℤ
 
@@ -20,7 +20,7 @@ pub record Row : Type 0 where
   pub sheet : List ℤ
   pub budget : ℕ
   pub room : ℕ
-  pub expected : Outcome
+  pub expected : Written
 
 abbrev pub holding : Answer → List ℤ
 holding (least cost held opened p) = wordsOf entryWords (heldEntries p)
@@ -28,12 +28,12 @@ holding (none opened) = []
 holding (spent opened) = []
 holding (refused f place) = []
 
-abbrev pub outcomeOf : Answer → Outcome
-outcomeOf a = record { told = numbers a; hold = holding a }
+abbrev pub writtenOf : Answer → Written
+writtenOf a = record { told = numbers a; hold = holding a }
 
 -- what the definitions say for a row
-unfoldable pub outcome : Row → Outcome
-outcome r = outcomeOf (answer (r .sheet) (r .budget) (r .room))
+unfoldable pub written : Row → Written
+written r = writtenOf (answer (r .sheet) (r .budget) (r .room))
 
 -- the words +v and -v; -0 is the word 0
 abbrev + : ℕ → ℤ

@@ -16,7 +16,7 @@ use Rattle.reply.specs.Table.{Row, output, rows, million, total, largest
 use Rattle.reply.proofs.Digits.{decimal-is}
 
 pub rows-right : map output rows ≡ map (λ (r : Row). r .printed) rows
-unfolding rows printedFor text.readText text.wordsOf text.numberOf text.decimal text.tokensFrom text.front answer decode decodeBy hall rule times walkHall walkFrom start walk node nodeBy opening through entryBy after still shut closes oneMore keep better rank less heldFrom heldOf costOf ifHeld firstUnmet meetsAll meetsRule hold isFree holds wordsOf spaced digitsBy
+unfolding rows printedFor text.readText text.readTokens text.numberOf text.decimal text.tokensFrom text.front answer decode decodeBy hall rule times walkHall walkFrom start walk node nodeBy opening through entryBy after still shut closes oneMore keep better rank less heldFrom heldOf costOf ifHeld firstUnmet meetsAll meetsRule hold isFree holds wordsOf spaced digitsBy
 rows-right = refl
 
 -- large numbers, by the law that a number's digits are the kit's

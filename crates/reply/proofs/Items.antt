@@ -13,7 +13,7 @@ use Rattle.hall.specs.Hall.{Entry}
 use Rattle.hall.specs.Order.{heldBy, heldFrom, heldEntries}
 use Rattle.hall.specs.Ranges.{wordsOf, entryWords}
 use Rattle.typed.specs.Printing.{digitsOf, printedWord}
-use Rattle.reply.specs.Printed.{spaced, entriesOf}
+use Rattle.reply.specs.Printed.{spaced, printedEntries}
 use Rattle.reply.specs.Contract.{Fits, Puts}
 use Rattle.reply.proofs.Putting.{Left, left-room}
 
@@ -39,7 +39,7 @@ one-item : (z : ℤ) (zs : List ℤ) → spaced printedWord (z ∷ zs) ≡ space
 unfolding spaced
 one-item z zs = ap (λ (l : List ℕ). 32 ∷ (l ++ spaced printedWord zs)) (sym (append-nil (printedWord z)))
 
-device-one : (x v : ℕ) (es : List Entry) → entriesOf (heldBy x v es) ≡ entriesOf (heldBy x v []) ++ entriesOf es
+device-one : (x v : ℕ) (es : List Entry) → printedEntries (heldBy x v es) ≡ printedEntries (heldBy x v []) ++ printedEntries es
 unfolding spaced wordsOf
 device-one zero v es = refl
 device-one (suc zero) v es = one-item (pos (suc v)) (wordsOf entryWords es)
@@ -48,30 +48,30 @@ device-one (suc (suc (suc x))) v es = refl
 
 -- by its mark: at position 1, at position 0, not held
 module _ (x v : ℕ) where
-  text-1 : x ≡ 1 → entriesOf (heldBy x v []) ≡ (32 ∷ []) ++ digitsOf (v + 1)
+  text-1 : x ≡ 1 → printedEntries (heldBy x v []) ≡ (32 ∷ []) ++ digitsOf (v + 1)
   unfolding spaced wordsOf
   text-1 e = rw (e, add-one) (ap (λ (l : List ℕ). 32 ∷ l) (append-nil (digitsOf (suc v))))
 
-  text-2 : x ≡ 2 → entriesOf (heldBy x v []) ≡ (32 ∷ 45 ∷ []) ++ digitsOf (v + 1)
+  text-2 : x ≡ 2 → printedEntries (heldBy x v []) ≡ (32 ∷ 45 ∷ []) ++ digitsOf (v + 1)
   unfolding spaced wordsOf
   text-2 e = rw (e, add-one) (ap (λ (l : List ℕ). 32 ∷ 45 ∷ l) (append-nil (digitsOf (suc v))))
 
   module _ (at : ℕ) where
-    pub room-1 : x ≡ 1 → Fits (entriesOf (heldBy x v [])) at → Fits ((32 ∷ []) ++ digitsOf (v + 1)) at
+    pub room-1 : x ≡ 1 → Fits (printedEntries (heldBy x v [])) at → Fits ((32 ∷ []) ++ digitsOf (v + 1)) at
     room-1 e fits = rw (text-1 e) at fits
 
-    pub room-2 : x ≡ 2 → Fits (entriesOf (heldBy x v [])) at → Fits ((32 ∷ 45 ∷ []) ++ digitsOf (v + 1)) at
+    pub room-2 : x ≡ 2 → Fits (printedEntries (heldBy x v [])) at → Fits ((32 ∷ 45 ∷ []) ++ digitsOf (v + 1)) at
     room-2 e fits = rw (text-2 e) at fits
 
     module _ (before : List ℕ) (r : ℕ) (after : List ℕ) where
-      pub puts-1 : x ≡ 1 → Puts ((32 ∷ []) ++ digitsOf (v + 1)) at before r after → Puts (entriesOf (heldBy x v [])) at before r after
+      pub puts-1 : x ≡ 1 → Puts ((32 ∷ []) ++ digitsOf (v + 1)) at before r after → Puts (printedEntries (heldBy x v [])) at before r after
       puts-1 e p = rw (text-1 e) p
 
-      pub puts-2 : x ≡ 2 → Puts ((32 ∷ 45 ∷ []) ++ digitsOf (v + 1)) at before r after → Puts (entriesOf (heldBy x v [])) at before r after
+      pub puts-2 : x ≡ 2 → Puts ((32 ∷ 45 ∷ []) ++ digitsOf (v + 1)) at before r after → Puts (printedEntries (heldBy x v [])) at before r after
       puts-2 e p = rw (text-2 e) p
 
-pub puts-none : (x v at : ℕ) (before : List ℕ) → (x ≡ 1 → ⊥) → (x ≡ 2 → ⊥) → Fits (entriesOf (heldBy x v [])) at
-    → Puts (entriesOf (heldBy x v [])) at before at before
+pub puts-none : (x v at : ℕ) (before : List ℕ) → (x ≡ 1 → ⊥) → (x ≡ 2 → ⊥) → Fits (printedEntries (heldBy x v [])) at
+    → Puts (printedEntries (heldBy x v [])) at before at before
 unfolding spaced wordsOf
 puts-none zero v at before a b h = record { ends = omega arith; leaves = refl; fits = omega arith }
 puts-none (suc zero) v at before a b h = absurd (a refl)
@@ -87,22 +87,22 @@ held-one (x ∷ marks) zero u = refl
 held-one (x ∷ marks) (suc v) u = held-one marks v u
 
 pub devices-more : (plan : List ℕ) (v : ℕ) → v < 200
-    → entriesOf (heldFrom v (drop v (take 200 plan))) ≡ entriesOf (heldBy (getD plan v 0) v []) ++ entriesOf (heldFrom (v + 1) (drop (v + 1) (take 200 plan)))
+    → printedEntries (heldFrom v (drop v (take 200 plan))) ≡ printedEntries (heldBy (getD plan v 0) v []) ++ printedEntries (heldFrom (v + 1) (drop (v + 1) (take 200 plan)))
 devices-more plan v h =
     let s = add-one v in
     rw s
-    (ap entriesOf (held-one (take 200 plan) v v)
+    (ap printedEntries (held-one (take 200 plan) v v)
     ∙ device-one (getD (take 200 plan) v 0) v (heldFrom (suc v) (drop (suc v) (take 200 plan)))
-    ∙ ap (λ (x : ℕ). entriesOf (heldBy x v []) ++ entriesOf (heldFrom (suc v) (drop (suc v) (take 200 plan)))) (getD-take 200 plan v 0 h))
+    ∙ ap (λ (x : ℕ). printedEntries (heldBy x v []) ++ printedEntries (heldFrom (suc v) (drop (suc v) (take 200 plan)))) (getD-take 200 plan v 0 h))
 
 pub devices-room : (plan : List ℕ) (v at : ℕ) (before : List ℕ) (next : ℕ) (out : List ℕ)
-    → Left (entriesOf (heldFrom v (drop v (take 200 plan)))) (entriesOf (heldEntries (take 200 plan))) at before next out → v < 200
-    → Fits (entriesOf (heldEntries (take 200 plan))) at → Fits (entriesOf (heldBy (getD plan v 0) v [])) next
+    → Left (printedEntries (heldFrom v (drop v (take 200 plan)))) (printedEntries (heldEntries (take 200 plan))) at before next out → v < 200
+    → Fits (printedEntries (heldEntries (take 200 plan))) at → Fits (printedEntries (heldBy (getD plan v 0) v [])) next
 devices-room plan v at before next out left h fits =
-    left-room _ _ at before next out left (entriesOf (heldBy (getD plan v 0) v [])) (entriesOf (heldFrom (v + 1) (drop (v + 1) (take 200 plan)))) (devices-more plan v h) fits
+    left-room _ _ at before next out left (printedEntries (heldBy (getD plan v 0) v [])) (printedEntries (heldFrom (v + 1) (drop (v + 1) (take 200 plan)))) (devices-more plan v h) fits
 
-pub devices-end : (plan : List ℕ) (v : ℕ) → 200 ≤ v → entriesOf (heldFrom v (drop v (take 200 plan))) ≡ []
+pub devices-end : (plan : List ℕ) (v : ℕ) → 200 ≤ v → printedEntries (heldFrom v (drop v (take 200 plan))) ≡ []
 unfolding heldFrom spaced wordsOf
 devices-end plan v h =
     let l : length (take 200 plan) ≤ v = omega (arith, length-take 200 plan) in
-    ap (λ (marks : List ℕ). entriesOf (heldFrom v marks)) (drop-of-length-le (take 200 plan) l)
+    ap (λ (marks : List ℕ). printedEntries (heldFrom v marks)) (drop-of-length-le (take 200 plan) l)

@@ -8,7 +8,7 @@ use lib.ListN.{length, take, length-append, length-take}
 use Rattle.hall.specs.Order.{heldBy, heldFrom, heldEntries}
 use Rattle.hall.specs.Ranges.{wordsOf}
 use Rattle.typed.specs.Printing.{digitsBy, digitsOf}
-use Rattle.reply.specs.Printed.{leastWord, noneWord, spentWord, refusedWord, refusedLine, spaced, line, entriesOf, holdLine}
+use Rattle.reply.specs.Printed.{leastWord, noneWord, spentWord, refusedWord, refusedLine, spaced, line, printedEntries, holdLine}
 use Rattle.reply.specs.Contract.{Fits, Puts}
 use Rattle.typed.proofs.Printed.{digits-few}
 
@@ -66,17 +66,17 @@ unfoldable roomFor : ℕ → ℕ → ℕ
 roomFor v zero = 0
 roomFor v (suc n) = 2 + length (digitsOf (suc v)) + roomFor (suc v) n
 
-devices-short : (v n : ℕ) (plan : List ℕ) → length plan ≤ n → length (entriesOf (heldFrom v plan)) ≤ roomFor v n
+devices-short : (v n : ℕ) (plan : List ℕ) → length plan ≤ n → length (printedEntries (heldFrom v plan)) ≤ roomFor v n
 unfolding roomFor heldFrom spaced wordsOf
 devices-short v n [] h = omega arith
 devices-short v zero (x ∷ plan) h = absurd (omega arith)
 devices-short v (suc n) (x ∷ plan) h = go x (devices-short (suc v) n plan (omega arith))
   where
-    go : (x : ℕ) → length (entriesOf (heldFrom (suc v) plan)) ≤ roomFor (suc v) n
-        → length (entriesOf (heldBy x v (heldFrom (suc v) plan))) ≤ 2 + length (digitsOf (suc v)) + roomFor (suc v) n
+    go : (x : ℕ) → length (printedEntries (heldFrom (suc v) plan)) ≤ roomFor (suc v) n
+        → length (printedEntries (heldBy x v (heldFrom (suc v) plan))) ≤ 2 + length (digitsOf (suc v)) + roomFor (suc v) n
     go zero rest = omega arith
-    go (suc zero) rest = omega (arith, length-append (digitsOf (suc v)) (entriesOf (heldFrom (suc v) plan)))
-    go (suc (suc zero)) rest = omega (arith, length-append (digitsOf (suc v)) (entriesOf (heldFrom (suc v) plan)))
+    go (suc zero) rest = omega (arith, length-append (digitsOf (suc v)) (printedEntries (heldFrom (suc v) plan)))
+    go (suc (suc zero)) rest = omega (arith, length-append (digitsOf (suc v)) (printedEntries (heldFrom (suc v) plan)))
     go (suc (suc (suc x))) rest = omega arith
 
 all-devices : roomFor 0 200 ≡ 892
@@ -86,7 +86,7 @@ all-devices = refl
 hold-short : (plan : List ℕ) → length (holdLine (take 200 plan)) ≤ 897
 hold-short plan =
     let marks = take 200 plan in
-    omega (arith, length-append (entriesOf (heldEntries marks)) (10 ∷ []), devices-short 0 200 marks (omega (arith, length-take 200 plan)), all-devices)
+    omega (arith, length-append (printedEntries (heldEntries marks)) (10 ∷ []), devices-short 0 200 marks (omega (arith, length-take 200 plan)), all-devices)
 
 pub hold-fits : (cost held opened : ℕ) (plan before : List ℕ) (next : ℕ) (out : List ℕ) → cost < 2 ^ 64 → held < 2 ^ 32 → opened < 2 ^ 32
     → Puts (line leastWord digitsOf (cost ∷ held ∷ opened ∷ [])) 0 before next out → Fits (holdLine (take 200 plan)) next

@@ -5,7 +5,7 @@ use mathlib.Core.List.{List, [], _∷_, _++_}
 use Prim.Native.Nat.{ℕ}
 use native.Mathlib.Omega.{arith}
 use lib.ListN.{take}
-use Rattle.sheet.specs.Contract.{codeOfKind}
+use Rattle.sheet.specs.Contract.{refusalCode}
 use Rattle.sheet.specs.declared.Refusal.{Refusal}
 use Rattle.typed.specs.Printing.{digitsOf}
 use Rattle.search.specs.declared.Answer.{Answer}
@@ -31,6 +31,6 @@ module _ (answer : Answer) (plan before : List ℕ) (r : ℕ) (after : List ℕ)
   pub prints-spent : (opened : ℕ) → answer ≡ Spent opened → Puts (line spentWord digitsOf (opened ∷ [])) 0 before r after → Prints answer plan before r after
   prints-spent opened e p = prints (line spentWord digitsOf (opened ∷ [])) (rw e) p
 
-  pub prints-refused : (kind : Refusal) (code place : ℕ) → answer ≡ Refused kind place → code ≡ codeOfKind kind → Puts (refusedLine code place) 0 before r after
+  pub prints-refused : (kind : Refusal) (code place : ℕ) → answer ≡ Refused kind place → code ≡ refusalCode kind → Puts (refusedLine code place) 0 before r after
       → Prints answer plan before r after
   prints-refused kind code place e c p = prints (refusedLine code place) (rw (e, c)) p

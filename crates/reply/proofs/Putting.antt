@@ -13,7 +13,7 @@ use lib.ListN.{length, getD, take, drop, set, length-append, drop-of-length-le}
 use lib.Seq.{sets, drop-cons}
 use Rattle.io.specs.Digits.{digits, Fewest}
 use Rattle.typed.specs.Printing.{digitsOf}
-use Rattle.sheet.proofs.Placing.{sets-append}
+use Rattle.lists.proofs.InFront.{sets-append}
 use Rattle.reply.specs.Contract.{Fits, Puts}
 use Rattle.reply.proofs.Digits.{decimal-is}
 

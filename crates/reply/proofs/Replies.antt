@@ -12,19 +12,19 @@ use lib.ListN.{length, take, drop, replicate, length-append, length-replicate}
 use lib.Seq.{sets, take-all, take-append-seam}
 use lib.IntN.{ℤ}
 use Rattle.hall.specs.Order.{heldBy, heldFrom, heldEntries}
-use Rattle.hall.specs.Reading.{codeOf}
+use Rattle.hall.specs.Reading.{faultCode}
 use Rattle.hall.specs.Answer as hall
 use Rattle.hall.specs.Answer.{answer, numbers, roomAfter}
 use Rattle.typed.specs.Text as text
 use Rattle.typed.specs.Text.{readText}
-use Rattle.typed.specs.Answer.{answered, Reads}
+use Rattle.typed.specs.Answer.{readingOf, Reads}
 use Rattle.typed.specs.Answer.{roomAfter as wordsAfter}
 use Rattle.typed.specs.declared.Mistake.{Mistake}
 use Rattle.typed.specs.declared.Reading.{Reading}
 use Rattle.typed.specs.declared.Reading.the-variants.{Words}
 use Rattle.typed.specs.declared.Reading.the-variants.{Refused as Refusal}
 use Rattle.typed.proofs.Answers.{numbers-injective}
-use Rattle.sheet.specs.Contract.{faultOf, codeOfKind}
+use Rattle.sheet.specs.Contract.{faultOf, refusalCode}
 use Rattle.search.specs.Contract.{numbersOf, Finds}
 use Rattle.search.proofs.Finds.{code-large}
 use Rattle.search.specs.declared.Answer.{Answer}
@@ -60,7 +60,7 @@ module _ (after : List ℕ) (short : length after ≤ 200) where
   same-lines (None o) (hall.none o′) e room = let z : o ≡ o′ = cc in rw z
   same-lines (Spent o) (hall.spent o′) e room = let z : o ≡ o′ = cc in rw z
   same-lines (Refused k i) (hall.refused f j) e room =
-      let x : codeOfKind k ≡ codeOf f = cc in
+      let x : refusalCode k ≡ faultCode f = cc in
       let y : i ≡ j = cc in
       rw (x, y)
   same-lines (Least c h o) (hall.none o′) e room = absurd (let z : _≡_ {A = ℕ} 0 1 = cc in omega arith)
@@ -68,24 +68,24 @@ module _ (after : List ℕ) (short : length after ≤ 200) where
   same-lines (Least c h o) (hall.refused f j) e room = absurd (let z : _≡_ {A = ℕ} 0 1 = cc in omega arith)
   same-lines (None o) (hall.least c′ h′ o′ plan) e room = absurd (let z : _≡_ {A = ℕ} 0 1 = cc in omega arith)
   same-lines (None o) (hall.spent o′) e room = absurd (let z : _≡_ {A = ℕ} 1 2 = cc in omega arith)
-  same-lines (None o) (hall.refused f j) e room = absurd (let z : 1 ≡ codeOf f = cc in omega (arith, code-large f))
+  same-lines (None o) (hall.refused f j) e room = absurd (let z : 1 ≡ faultCode f = cc in omega (arith, code-large f))
   same-lines (Spent o) (hall.least c′ h′ o′ plan) e room = absurd (let z : _≡_ {A = ℕ} 0 1 = cc in omega arith)
   same-lines (Spent o) (hall.none o′) e room = absurd (let z : _≡_ {A = ℕ} 2 1 = cc in omega arith)
-  same-lines (Spent o) (hall.refused f j) e room = absurd (let z : 2 ≡ codeOf f = cc in omega (arith, code-large f))
+  same-lines (Spent o) (hall.refused f j) e room = absurd (let z : 2 ≡ faultCode f = cc in omega (arith, code-large f))
   same-lines (Refused k i) (hall.least c′ h′ o′ plan) e room = absurd (let z : _≡_ {A = ℕ} 0 1 = cc in omega arith)
-  same-lines (Refused k i) (hall.none o′) e room = absurd (let z : codeOfKind k ≡ 1 = cc in omega (arith, code-large (faultOf k)))
-  same-lines (Refused k i) (hall.spent o′) e room = absurd (let z : codeOfKind k ≡ 2 = cc in omega (arith, code-large (faultOf k)))
+  same-lines (Refused k i) (hall.none o′) e room = absurd (let z : refusalCode k ≡ 1 = cc in omega (arith, code-large (faultOf k)))
+  same-lines (Refused k i) (hall.spent o′) e room = absurd (let z : refusalCode k ≡ 2 = cc in omega (arith, code-large (faultOf k)))
 
 -- ── a text that was read ──
 -- the words that were read, by the reader's contract
 module _ (typed : List ℕ) (before : List ℤ) (r : Reading) (after : List ℤ) (reads : Reads typed before r after) where
-  told : r ≡ answered (readText typed (length before))
-  told = numbers-injective r (answered (readText typed (length before))) (reads .says)
+  told : r ≡ readingOf (readText typed (length before))
+  told = numbers-injective r (readingOf (readText typed (length before))) (reads .says)
 
   pub read-within : (w : ℕ) → r ≡ Words w → w ≤ length after
   read-within w e = go (readText typed (length before)) (sym e ∙ told) (reads .room)
     where
-      go : (x : text.Read (List ℤ)) → Words w ≡ answered x → after ≡ wordsAfter x before → w ≤ length after
+      go : (x : text.Read (List ℤ)) → Words w ≡ readingOf x → after ≡ wordsAfter x before → w ≤ length after
       go (text.refused m place) a b = absurd (let z : _≡_ {A = ℕ} 0 1 = cc in omega arith)
       go (text.got words) a b =
           let s : w ≡ length words = cc in
@@ -95,7 +95,7 @@ module _ (typed : List ℕ) (before : List ℤ) (r : Reading) (after : List ℤ)
   read-words : (w : ℕ) → r ≡ Words w → readText typed (length before) ≡ text.got (take (w - 0) after)
   read-words w e = go (readText typed (length before)) (sym e ∙ told) (reads .room)
     where
-      go : (x : text.Read (List ℤ)) → Words w ≡ answered x → after ≡ wordsAfter x before → x ≡ text.got (take (w - 0) after)
+      go : (x : text.Read (List ℤ)) → Words w ≡ readingOf x → after ≡ wordsAfter x before → x ≡ text.got (take (w - 0) after)
       go (text.refused m place) a b = absurd (let z : _≡_ {A = ℕ} 0 1 = cc in omega arith)
       go (text.got words) a b =
           let s : w ≡ length words = cc in
@@ -105,7 +105,7 @@ module _ (typed : List ℕ) (before : List ℤ) (r : Reading) (after : List ℤ)
   read-refused : (m : Mistake) (place : ℕ) → r ≡ Refusal m place → readText typed (length before) ≡ text.refused m place
   read-refused m place e = go (readText typed (length before)) (sym e ∙ told)
     where
-      go : (x : text.Read (List ℤ)) → Refusal m place ≡ answered x → x ≡ text.refused m place
+      go : (x : text.Read (List ℤ)) → Refusal m place ≡ readingOf x → x ≡ text.refused m place
       go (text.refused n i) a = let z : n ≡ m = cc in let y : i ≡ place = cc in rw (z, y)
       go (text.got words) a = absurd (let z : _≡_ {A = ℕ} 0 1 = cc in omega arith)
 
@@ -119,7 +119,7 @@ module _ (typed : List ℕ) (words : List ℤ) (size : length words ≡ 16384) (
       let g : lines ≡ printedReading (readText typed 16384) = f ∙ ap printedReading (sym e) ∙ ap (λ (n : ℕ). printedReading (readText typed n)) size in
       record { says = rw (sym g) says; room = rw (sym g) room; fits = fits }
 
-  pub replies-refused : (m : Mistake) (code place : ℕ) → reading ≡ Refusal m place → code ≡ text.codeOf m → Puts (refusedLine code place) 0 before r after
+  pub replies-refused : (m : Mistake) (code place : ℕ) → reading ≡ Refusal m place → code ≡ text.mistakeCode m → Puts (refusedLine code place) 0 before r after
       → Replies typed before r after
   replies-refused m code place e c p =
       replies (text.refused m place) (read-refused typed words reading words′ reads m place e) (refusedLine code place) (rw c) (omega (arith, p .ends)) (p .leaves) (p .fits)

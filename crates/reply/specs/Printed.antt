@@ -44,8 +44,8 @@ abbrev pub holdLine : List ℕ → List ℕ
 holdLine plan = line holdWord printedWord (wordsOf entryWords (heldEntries plan))
 
 -- what that line has of some entries
-abbrev pub entriesOf : List Entry → List ℕ
-entriesOf entries = spaced printedWord (wordsOf entryWords entries)
+abbrev pub printedEntries : List Entry → List ℕ
+printedEntries entries = spaced printedWord (wordsOf entryWords entries)
 
 -- "`refused CODE PLACE`, for either table"
 abbrev pub refusedLine : (code place : ℕ) → List ℕ
@@ -56,11 +56,11 @@ abbrev pub printedAnswer : Answer → List ℕ
 printedAnswer (least cost held opened plan) = line leastWord digitsOf (cost ∷ held ∷ opened ∷ []) ++ holdLine plan
 printedAnswer (none opened) = line noneWord digitsOf (opened ∷ [])
 printedAnswer (spent opened) = line spentWord digitsOf (opened ∷ [])
-printedAnswer (refused fault place) = refusedLine (sheet.codeOf fault) place
+printedAnswer (refused fault place) = refusedLine (sheet.faultCode fault) place
 
 -- "uses .. a budget of 1,000,000"; the plan room has 200 bytes, a mark for each device that a sheet may have
 abbrev pub printedReading : text.Read (List ℤ) → List ℕ
-printedReading (text.refused mistake place) = refusedLine (text.codeOf mistake) place
+printedReading (text.refused mistake place) = refusedLine (text.mistakeCode mistake) place
 printedReading (text.got words) = printedAnswer (answer words 1000000 200)
 
 -- "uses a room of 16,384 words": what is printed for a text

@@ -4,7 +4,7 @@ ghost use Prim.Native.Nat.{_<_};
 ghost use lib.ListN.{take};
 ghost use Rattle.typed.specs.Printing.{digitsOf};
 ghost use Rattle.hall.specs.Order.{heldBy, heldEntries};
-ghost use Rattle.reply.specs.Printed.{spaced, line, entriesOf, holdLine, refusedLine};
+ghost use Rattle.reply.specs.Printed.{spaced, line, printedEntries, holdLine, refusedLine};
 ghost use Rattle.reply.specs.Contract.{Fits, Puts};
 use crate::put::close_line;
 use crate::put::put;
@@ -45,8 +45,8 @@ pub(crate) fn put_refused(code: u32, place: usize, out: &mut [u8; 1024]) -> usiz
 // One device, by its mark; devices are numbered from 0 here.
 fn put_device(mark: u8, device: usize, at: usize, out: &mut [u8; 1024]) -> usize
     requires { ⌜ device < 200 ⌝ }
-    requires { ⌜ Fits (entriesOf (heldBy mark device [])) at ⌝ }
-    ensures { λ r. ⌜ Puts (entriesOf (heldBy mark device [])) at (now (out .entry)) r (now (out .exit)) ⌝ }
+    requires { ⌜ Fits (printedEntries (heldBy mark device [])) at ⌝ }
+    ensures { λ r. ⌜ Puts (printedEntries (heldBy mark device [])) at (now (out .entry)) r (now (out .exit)) ⌝ }
 {
     if mark == 1 {
         return put_number(b" ", (device + 1) as u64, at, out);
@@ -59,8 +59,8 @@ fn put_device(mark: u8, device: usize, at: usize, out: &mut [u8; 1024]) -> usize
 
 // The devices that a plan room of 200 marks holds, in rising order.
 fn put_devices(plan: &[u8; 200], at: usize, out: &mut [u8; 1024]) -> usize
-    requires { ⌜ Fits (entriesOf (heldEntries (take 200 (now plan)))) at ⌝ }
-    ensures { λ r. ⌜ Puts (entriesOf (heldEntries (take 200 (now (plan .entry))))) at (now (out .entry)) r (now (out .exit)) ⌝ }
+    requires { ⌜ Fits (printedEntries (heldEntries (take 200 (now plan)))) at ⌝ }
+    ensures { λ r. ⌜ Puts (printedEntries (heldEntries (take 200 (now (plan .entry))))) at (now (out .entry)) r (now (out .exit)) ⌝ }
 {
     let mut next = at;
     let mut device: usize = 0;

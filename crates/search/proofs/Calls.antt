@@ -17,9 +17,9 @@ use Rattle.hall.specs.Bound.{entries}
 use Rattle.hall.specs.Reading.{Read, bad, got, decode}
 use Rattle.hall.specs.Answer.{within, answerRead, answer, numbers, roomAfter}
 use Rattle.hall.proofs.Reasons.{decoded}
-use Rattle.sheet.specs.Coded.{hallOf, Laid, codesOf}
+use Rattle.sheet.specs.Coded.{hallOf, Laid, entryCodes}
 use Rattle.sheet.specs.Contract as sheet-says
-use Rattle.sheet.specs.Contract.{codeOfKind, numbersRead, Holds, ArraysAfter, Decodes}
+use Rattle.sheet.specs.Contract.{refusalCode, numbersRead, Holds, ArraysAfter, Decodes}
 use Rattle.sheet.specs.declared.Refusal.{Refusal}
 use Rattle.sheet.specs.declared.Sheet.{Sheet}
 use Rattle.sheet.specs.declared.Sheet.the-variants as sheet
@@ -36,7 +36,7 @@ module _ (ws : List ℤ) (costs codes starts costs′ codes′ starts′ : List 
   unfolding answer
   call-refused budget kind place e = go (decode (length before) ws) refl (sym (ap sheet-says.numbersOf e) ∙ d .says)
     where
-      go : (x : Read Hall) → decode (length before) ws ≡ x → codeOfKind kind ∷ place ∷ [] ≡ numbersRead x → Finds ws budget before (Refused kind place) before
+      go : (x : Read Hall) → decode (length before) ws ≡ x → refusalCode kind ∷ place ∷ [] ≡ numbersRead x → Finds ws budget before (Refused kind place) before
       go (bad f i) u q = let a : answer ws budget (length before) ≡ answerRead budget (bad f i) = ap (answerRead budget) u in
           finds ws budget before (Refused kind place) (q ∙ sym (ap numbers a)) before (sym (ap (λ x. roomAfter x before) a))
       go (got h j) u q = absurd (let z : _≡_ {A = ℕ} 0 1 = cc in omega arith)
@@ -116,7 +116,7 @@ module _ (ws : List ℤ) (costs codes starts costs′ codes′ starts′ : List 
       let devices = ranges .devices in
       let count = ranges .count in
       let fits = g .sheet-of .fits in
-      let room : length codes′ ≡ length codes = ap length (g .holds .codes-hold) ∙ length-sets codes 0 (codesOf (entries (g .whole .rules))) in
+      let room : length codes′ ≡ length codes = ap length (g .holds .codes-hold) ∙ length-sets codes 0 (entryCodes (entries (g .whole .rules))) in
       let laid = hall-laid (g .whole) costs codes starts costs′ codes′ starts′ (g .holds) few entries-few rules-few ranges (omega (arith, entries-few)) in
       let end = hall-end (g .whole) costs codes starts costs′ codes′ starts′ (g .holds) few entries-few rules-few in
       record {

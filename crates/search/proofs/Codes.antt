@@ -12,14 +12,14 @@ use lib.ListN.{length, getD, set}
 use lib.Seq.{set-set, set-getD}
 use borrow.Author.Tests.{eqb-true}
 use Rattle.hall.specs.Hall.{Entry, device, mark, Plan, holds, isFree, hold}
-use Rattle.sheet.specs.Coded.{entryBy, entryOf}
+use Rattle.sheet.specs.Coded.{entryFrom, entryOf}
 use Rattle.search.specs.Plan.{release}
 
 pub device-of : (code : ℕ) → device (entryOf code) ≡ code / 2
 unfolding entryOf
 device-of code = go (code % 2)
   where
-    go : (odd : ℕ) → device (entryBy odd (code / 2)) ≡ code / 2
+    go : (odd : ℕ) → device (entryFrom odd (code / 2)) ≡ code / 2
     go zero = refl
     go (suc odd) = refl
 
@@ -27,7 +27,7 @@ mark-of : (code : ℕ) → mark (entryOf code) ≡ 1 + code % 2
 unfolding entryOf
 mark-of code = go (code % 2) (omega arith)
   where
-    go : (odd : ℕ) → odd < 2 → mark (entryBy odd (code / 2)) ≡ 1 + odd
+    go : (odd : ℕ) → odd < 2 → mark (entryFrom odd (code / 2)) ≡ 1 + odd
     go zero h = refl
     go (suc zero) h = refl
     go (suc (suc odd)) h = absurd (omega arith)

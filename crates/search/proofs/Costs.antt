@@ -11,7 +11,7 @@ use lib.ListN.{length, getD, set, replicate}
 use borrow.Author.Tests.{eqb-true}
 use Rattle.hall.specs.Hall.{Entry, at1, at0, device, Plan, isFree, hold}
 use Rattle.hall.specs.Order.{ifHeld, costOf}
-use Rattle.hall.specs.Ranges.{Each}
+use Rattle.lists.specs.Lists.{Each}
 
 pub start-cost : (costs : List ℕ) (n : ℕ) → costOf costs (replicate n 0) ≡ 0
 unfolding costOf ifHeld

@@ -12,7 +12,7 @@ use Rattle.hall.specs.Hall.{Hall}
 use Rattle.hall.specs.Order.{NoPlan}
 use Rattle.hall.specs.Walk.{Best, noneYet, soFar, walkHall}
 use Rattle.hall.specs.Ranges.{SheetOf}
-use Rattle.hall.specs.Reading.{Fault, tooShort, badCount, badCost, badEntry, extraWords, smallRoom, tooLong, codeOf, Read, bad, got, decode}
+use Rattle.hall.specs.Reading.{Fault, tooShort, badCount, badCost, badEntry, extraWords, smallRoom, tooLong, faultCode, Read, bad, got, decode}
 use Rattle.hall.specs.Due.{Reason}
 use Rattle.hall.specs.Answer as hall
 use Rattle.hall.specs.Answer.{finished, within, answerRead, answer, numbers, roomAfter}
@@ -20,11 +20,11 @@ use Rattle.hall.specs.Demands.{SaysLeast, Answered}
 use Rattle.hall.proofs.Least.{none-best, best-none}
 use Rattle.hall.proofs.Bound.{opens-bounded}
 use Rattle.hall.proofs.Equality.{opens-exactly}
-use Rattle.hall.proofs.Budget.{Outcome, stops, ends, outcome, over, enough, answer-is}
+use Rattle.hall.proofs.Budget.{Ending, stops, ends, ending, over, enough, answer-is}
 use Rattle.hall.proofs.Reasons.{decoded}
 use Rattle.hall.proofs.Answers.{answered, answered-only, room-plan}
 use Rattle.sheet.specs.Check.{kindOf}
-use Rattle.sheet.specs.Contract.{faultOf, codeOfKind}
+use Rattle.sheet.specs.Contract.{faultOf, refusalCode}
 use Rattle.sheet.specs.declared.Refusal.{Refusal}
 use Rattle.sheet.specs.declared.Refusal.the-variants.{TooShort, BadCount, BadCost, BadEntry, ExtraWords, SmallRoom, TooLong}
 use Rattle.sheet.proofs.Decoding.{fault-kind}
@@ -40,7 +40,7 @@ Matches r (hall.none opened) = r ≡ None opened
 Matches r (hall.spent opened) = r ≡ Spent opened
 Matches r (hall.refused f place) = r ≡ Refused (kindOf f) place
 
-pub code-large : (f : Fault) → 11 ≤ codeOf f
+pub code-large : (f : Fault) → 11 ≤ faultCode f
 code-large tooShort = omega arith
 code-large badCount = omega arith
 code-large badCost = omega arith
@@ -62,21 +62,21 @@ pub match : (r : Answer) (a : hall.Answer) → numbersOf r ≡ numbers a → Mat
 match (Least c k o) (hall.least c′ k′ o′ p) e = let x : c ≡ c′ = cc in let y : k ≡ k′ = cc in let z : o ≡ o′ = cc in rw (x, y, z)
 match (Least c k o) (hall.none o′) e = absurd (let z : _≡_ {A = ℕ} 0 1 = cc in omega arith)
 match (Least c k o) (hall.spent o′) e = absurd (let z : _≡_ {A = ℕ} 0 2 = cc in omega arith)
-match (Least c k o) (hall.refused f i) e = absurd (let z : 0 ≡ codeOf f = cc in omega (arith, code-large f))
+match (Least c k o) (hall.refused f i) e = absurd (let z : 0 ≡ faultCode f = cc in omega (arith, code-large f))
 match (None o) (hall.least c k o′ p) e = absurd (let z : _≡_ {A = ℕ} 1 0 = cc in omega arith)
 match (None o) (hall.none o′) e = let x : o ≡ o′ = cc in rw x
 match (None o) (hall.spent o′) e = absurd (let z : _≡_ {A = ℕ} 1 2 = cc in omega arith)
-match (None o) (hall.refused f i) e = absurd (let z : 1 ≡ codeOf f = cc in omega (arith, code-large f))
+match (None o) (hall.refused f i) e = absurd (let z : 1 ≡ faultCode f = cc in omega (arith, code-large f))
 match (Spent o) (hall.least c k o′ p) e = absurd (let z : _≡_ {A = ℕ} 2 0 = cc in omega arith)
 match (Spent o) (hall.none o′) e = absurd (let z : _≡_ {A = ℕ} 2 1 = cc in omega arith)
 match (Spent o) (hall.spent o′) e = let x : o ≡ o′ = cc in rw x
-match (Spent o) (hall.refused f i) e = absurd (let z : 2 ≡ codeOf f = cc in omega (arith, code-large f))
-match (Refused k i) (hall.least c h o p) e = absurd (let z : codeOfKind k ≡ 0 = cc in omega (arith, code-large (faultOf k)))
-match (Refused k i) (hall.none o) e = absurd (let z : codeOfKind k ≡ 1 = cc in omega (arith, code-large (faultOf k)))
-match (Refused k i) (hall.spent o) e = absurd (let z : codeOfKind k ≡ 2 = cc in omega (arith, code-large (faultOf k)))
+match (Spent o) (hall.refused f i) e = absurd (let z : 2 ≡ faultCode f = cc in omega (arith, code-large f))
+match (Refused k i) (hall.least c h o p) e = absurd (let z : refusalCode k ≡ 0 = cc in omega (arith, code-large (faultOf k)))
+match (Refused k i) (hall.none o) e = absurd (let z : refusalCode k ≡ 1 = cc in omega (arith, code-large (faultOf k)))
+match (Refused k i) (hall.spent o) e = absurd (let z : refusalCode k ≡ 2 = cc in omega (arith, code-large (faultOf k)))
 match (Refused k i) (hall.refused f j) e =
-    let x : codeOfKind k ≡ codeOf f = cc in
-    let y = code-injective k (kindOf f) (x ∙ sym (ap codeOf (fault-kind f))) in
+    let x : refusalCode k ≡ faultCode f = cc in
+    let y = code-injective k (kindOf f) (x ∙ sym (ap faultCode (fault-kind f))) in
     let z : i ≡ j = cc in
     rw (y, z)
 
@@ -119,13 +119,13 @@ module _ (ws : List ℤ) (budget : ℕ) (before : List ℕ) (r : Answer) (says :
       ∙ ap (λ (k : Refusal). Refused k place) (kind-fault kind)
 
   not-refused : Accepted ws before → (kind : Refusal) (place : ℕ) → r ≡ Refused kind place → ⊥
-  not-refused (h, s) kind place e = go (outcome h budget (walkHall h)) (by-walk h s)
+  not-refused (h, s) kind place e = go (ending h budget (walkHall h)) (by-walk h s)
     where
       on : (b : Best) → Matches r (finished h (walkHall h .opened) b) → ⊥
       on noneYet m = none-refused m e
       on (soFar p) m = least-refused m e
 
-      go : Outcome h budget (walkHall h) → Matches r (within h budget (walkHall h)) → ⊥
+      go : Ending h budget (walkHall h) → Matches r (within h budget (walkHall h)) → ⊥
       go (stops l u) m = spent-refused (subst (Matches r) u m) e
       go (ends l u) m = on (walkHall h .best) (subst (Matches r) u m)
 
@@ -169,24 +169,24 @@ module _ (ws : List ℤ) (budget : ℕ) (before : List ℕ) (r : Answer) (says :
 
     -- demand 3
     count-of : (n : ℕ) → Finished r n → (n ≡ walkHall h .opened) × (n ≤ budget)
-    count-of n f = go (outcome h budget (walkHall h)) (by-walk h s)
+    count-of n f = go (ending h budget (walkHall h)) (by-walk h s)
       where
         on : (b : Best) → Matches r (finished h (walkHall h .opened) b) → n ≡ walkHall h .opened
         on noneYet m = sym (subst (λ (x : Answer). Finished x n) m f)
         on (soFar p) m = sym (subst (λ (x : Answer). Finished x n) m f)
 
-        go : Outcome h budget (walkHall h) → Matches r (within h budget (walkHall h)) → (n ≡ walkHall h .opened) × (n ≤ budget)
+        go : Ending h budget (walkHall h) → Matches r (within h budget (walkHall h)) → (n ≡ walkHall h .opened) × (n ≤ budget)
         go (stops l u) m = absurd (subst (λ (x : Answer). Finished x n) (subst (Matches r) u m) f)
         go (ends l u) m = let e = on (walkHall h .best) (subst (Matches r) u m) in (e, rw e l)
 
     spent-of : r ≡ Spent budget → budget < walkHall h .opened
-    spent-of e = go (outcome h budget (walkHall h)) (by-walk h s)
+    spent-of e = go (ending h budget (walkHall h)) (by-walk h s)
       where
         on : (b : Best) → Matches r (finished h (walkHall h .opened) b) → budget < walkHall h .opened
         on noneYet m = absurd (let z : _≡_ {A = ℕ} 0 1 = cc in omega arith)
         on (soFar p) m = absurd (let z : _≡_ {A = ℕ} 0 1 = cc in omega arith)
 
-        go : Outcome h budget (walkHall h) → Matches r (within h budget (walkHall h)) → budget < walkHall h .opened
+        go : Ending h budget (walkHall h) → Matches r (within h budget (walkHall h)) → budget < walkHall h .opened
         go (stops l u) m = l
         go (ends l u) m = on (walkHall h .best) (subst (Matches r) u m)
 

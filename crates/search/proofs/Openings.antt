@@ -13,7 +13,7 @@ use borrow.Author.Tests.{le-leb, lt-leb}
 use Rattle.hall.specs.Hall.{Plan}
 use Rattle.hall.specs.Order.{less, rank, better}
 use Rattle.hall.specs.Walk.{Best, noneYet, soFar, keep, oneMore, closes, shut, still, opening}
-use Rattle.hall.proofs.Cases.{Tri, below, level, above, tri}
+use Rattle.lists.proofs.Cases.{Tri, below, level, above, tri}
 use Rattle.hall.proofs.Order.{less-below, less-level, less-above}
 use Rattle.sheet.specs.Coded.{hallOf}
 use Rattle.search.specs.declared.meter.Meter.{Meter}

@@ -1,7 +1,7 @@
 -- THE CYCLE: what each call is made under, that the measure falls, and how the parts of a walk make the whole.
 --
 -- In order: the measure (`remaining`, `falls-child`); what a node hands on (`openable`, `few-held`, `small-child`, `next-node`,
--- `child-node`); the entries of a rule: what is kept from entry to entry (`Reached`, `reached-none`), none is left (`walked-all`), one
+-- `child-node`); the entries of a rule: what is kept from entry to entry (`Partway`, `reached-none`), none is left (`walked-all`), one
 -- whose device is held (`passed-held`), one whose child was walked (`Tried`: `tried-spent`, `tried-on`); a node that was opened:
 -- stopped, without children, or branching (`walked-stopped`, `walked-leaf`, `branch-..`, `walked-branch`). Assumes nothing.
 use mathlib.Core.Path.{_≡_, refl, sym, ap, _∙_}
@@ -114,7 +114,7 @@ same-walked {b = b} e = ap (λ (k : ℕ). record { opened = k; best = b }) e
 
 -- the loop's invariant: of a walk through the entries from at₀ on, which began with the plan p₀, the best room₀ and the state s₀,
 -- `part` is done and the entries from `at` on are left; the plan is as it was
-pub record Reached (costs codes starts : List ℕ) (m : ℕ) (child : Walker) (at₀ left₀ : ℕ) (p₀ room₀ : Plan) (s₀ : State) (cost held at left : ℕ) (p room : Plan) (s : State) : Type 0 where
+pub record Partway (costs codes starts : List ℕ) (m : ℕ) (child : Walker) (at₀ left₀ : ℕ) (p₀ room₀ : Plan) (s₀ : State) (cost held at left : ℕ) (p room : Plan) (s : State) : Type 0 where
   pub as-was : p ≡ p₀
   pub same-long : length room ≡ length room₀
   pub here : AtEntries costs codes starts m at left p room s cost held
@@ -123,7 +123,7 @@ pub record Reached (costs codes starts : List ℕ) (m : ℕ) (child : Walker) (a
   pub rest : through child p₀ (entriesOf codes at₀ left₀) (bestOf (s₀ .best) room₀) ≡ after part (through child p₀ (entriesOf codes at left) (part .best))
 
 pub reached-none : {costs codes starts : List ℕ} {m : ℕ} (child : Walker) {at left : ℕ} {p room : Plan} {s : State} {cost held : ℕ} → AtEntries costs codes starts m at left p room s cost held →
-    Reached costs codes starts m child at left p room s cost held at left p room s
+    Partway costs codes starts m child at left p room s cost held at left p room s
 unfolding still after
 reached-none child {at} {left} {p} {room} {s} x =
     let budgeted = x .node .budgeted in
@@ -142,7 +142,7 @@ reached-none child {at} {left} {p} {room} {s} x =
     }
 
 module _ {costs codes starts : List ℕ} {m : ℕ} {child : Walker} {at₀ left₀ : ℕ} {p₀ room₀ : Plan} {s₀ : State} {cost held at left : ℕ} {p room : Plan} {s : State}
-    (x : Reached costs codes starts m child at₀ left₀ p₀ room₀ s₀ cost held at left p room s) where
+    (x : Partway costs codes starts m child at₀ left₀ p₀ room₀ s₀ cost held at left p room s) where
   abbrev all : Walked
   all = through child p₀ (entriesOf codes at₀ left₀) (bestOf (s₀ .best) room₀)
 
@@ -158,7 +158,7 @@ module _ {costs codes starts : List ℕ} {m : ℕ} {child : Walker} {at₀ left�
     first = entries-one codes at left (λ (z : left ≡ 0). omega arith) ∙ rw e refl
 
     -- an entry whose device is held opens nothing
-    pub passed-held : isFree p (entryOf code) ≡ false → Reached costs codes starts m child at₀ left₀ p₀ room₀ s₀ cost held (at + 1) (left - 1) p room s
+    pub passed-held : isFree p (entryOf code) ≡ false → Partway costs codes starts m child at₀ left₀ p₀ room₀ s₀ cost held (at + 1) (left - 1) p room s
     passed-held taken = record {
       as-was = x .as-was;
       same-long = x .same-long;
@@ -176,7 +176,7 @@ pub record Tried (costs : List ℕ) (child : Walker) (p room : Plan) (s : State)
   pub releases : back ≡ release held′ (entryOf code)
 
 module _ {costs codes starts : List ℕ} {m : ℕ} {child : Walker} {at₀ left₀ : ℕ} {p₀ room₀ : Plan} {s₀ : State} {cost number at left : ℕ} {p room : Plan} {s : State} {code : ℕ} {held held′ back room′ : Plan} {went : Went}
-    (x : Reached costs codes starts m child at₀ left₀ p₀ room₀ s₀ cost number at left p room s) (more : 0 < left) (e : code ≡ getD codes at 0)
+    (x : Partway costs codes starts m child at₀ left₀ p₀ room₀ s₀ cost number at left p room s) (more : 0 < left) (e : code ≡ getD codes at 0)
     (y : Tried costs child p room s code held held′ back room′ went) where
   pub back-as-was : back ≡ p
   back-as-was = y .releases ∙ rw (y .walked .same, y .holds) (release-hold p (entryOf code) (y .free))
@@ -200,7 +200,7 @@ module _ {costs codes starts : List ℕ} {m : ℕ} {child : Walker} {at₀ left�
       let u = o .over in
       rw parts (record { same = back-as-was ∙ x .as-was; ends = record { over = omega arith; count = o .count } })
 
-  pub tried-on : (next : State) → went ≡ On next → length room′ ≡ length room → Reached costs codes starts m child at₀ left₀ p₀ room₀ s₀ cost number (at + 1) (left - 1) back room′ next
+  pub tried-on : (next : State) → went ≡ On next → length room′ ≡ length room → Partway costs codes starts m child at₀ left₀ p₀ room₀ s₀ cost number (at + 1) (left - 1) back room′ next
   unfolding after
   tried-on next f l =
       let on : WentOn costs (s .meter) walk next room′ = rw f at (y .walked .ends) in

@@ -15,7 +15,7 @@ use Rattle.hall.specs.Bound.{depth, powerSum, boundOf, EqualityCase}
 use Rattle.hall.specs.Due.{Reason}
 use Rattle.hall.specs.Answer.{answer, numbers, roomAfter}
 use Rattle.hall.specs.Demands.{SaysLeast}
-use Rattle.sheet.specs.Contract.{faultOf, codeOfKind}
+use Rattle.sheet.specs.Contract.{faultOf, refusalCode}
 use Rattle.sheet.specs.declared.Refusal.{Refusal}
 use Rattle.search.specs.declared.Answer.{Answer}
 use Rattle.search.specs.declared.Answer.the-variants.{Least, None, Spent, Refused}
@@ -25,7 +25,7 @@ abbrev pub numbersOf : Answer → List ℕ
 numbersOf (Least cost held opened) = 0 ∷ cost ∷ held ∷ opened ∷ []
 numbersOf (None opened) = 1 ∷ opened ∷ []
 numbersOf (Spent opened) = 2 ∷ opened ∷ []
-numbersOf (Refused kind place) = codeOfKind kind ∷ place ∷ []
+numbersOf (Refused kind place) = refusalCode kind ∷ place ∷ []
 
 -- a sheet that is accepted for this room
 abbrev pub Accepted : List ℤ → List ℕ → Type 0

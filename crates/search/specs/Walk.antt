@@ -7,7 +7,7 @@ use mathlib.Core.List.{List}
 use Prim.Native.Nat.{ℕ, _+_, _/_, _≤_, _<_}
 use lib.ListN.{length, getD}
 use Rattle.hall.specs.Hall.{Plan}
-use Rattle.hall.specs.Ranges.{Each}
+use Rattle.lists.specs.Lists.{Each}
 use Rattle.hall.specs.Walk.{Walked}
 use Rattle.sheet.specs.Coded.{Laid}
 use Rattle.search.specs.declared.meter.Meter.{Meter}

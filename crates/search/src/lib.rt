@@ -25,34 +25,44 @@ pub enum Answer {
     Refused(Refusal, usize),
 }
 
+// Rooms that the search lends. Each is made by a function of its own: where a function that proves something wrote `[0; 16384]` itself, the
+// elements would be spelled out in its every goal.
+
 // Room for the costs of any hall.
-fn no_costs() -> [u32; 200]
+fn costs_room() -> [u32; 200]
     ensures { λ r. ⌜ r ≡ replicate 200 0 ⌝ }
 {
     [0u32; 200]
 }
 
 // Room for the entries of any sheet.
-fn no_codes() -> [u16; 16384]
+fn codes_room() -> [u16; 16384]
     ensures { λ r. ⌜ r ≡ replicate 16384 0 ⌝ }
 {
     [0u16; 16384]
 }
 
 // Room for the starts of all rules, and the end of the last.
-fn no_starts() -> [u16; 2001]
+fn starts_room() -> [u16; 2001]
     ensures { λ r. ⌜ r ≡ replicate 2001 0 ⌝ }
 {
     [0u16; 2001]
+}
+
+// Room for a plan of any hall, with nothing held.
+pub fn plan_room() -> [u8; 200]
+    ensures { λ r. ⌜ r ≡ replicate 200 0 ⌝ }
+{
+    [0u8; 200]
 }
 
 // The least plan of a sheet, under a budget of trial plans; its marks go to the front of the room.
 pub fn least_plan(words: &[i32], budget: u32, room: &mut [u8]) -> Answer
     ensures { λ r. ⌜ Finds (now (words .entry)) budget (now (room .entry)) r (now (room .exit)) ⌝ }
 {
-    let mut costs = no_costs();
-    let mut codes = no_codes();
-    let mut starts = no_starts();
+    let mut costs = costs_room();
+    let mut codes = codes_room();
+    let mut starts = starts_room();
     match sheet::read(words, room.len(), &mut costs, &mut codes, &mut starts) {
         Sheet::Refused(kind, place) => Answer::Refused(kind, place),
         Sheet::Hall(n, m) => solve(&costs[0..n], &codes, &starts, m, budget, room),

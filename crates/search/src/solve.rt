@@ -6,10 +6,10 @@ use crate::meter::Meter;
 use crate::node::BestSoFar;
 use crate::node::State;
 use crate::plan::copy_plan;
+use crate::plan_room;
 use crate::walk::Went;
 use crate::walk::walk_plan;
 ghost use mathlib.Core.Path.{_≡_};
-ghost use lib.ListN.{replicate};
 ghost use Rattle.sheet.specs.Coded.{hallOf};
 ghost use Rattle.search.specs.Solve.{begun, Ready, Solvable, Gives};
 
@@ -56,13 +56,6 @@ fn run(
     }
 }
 
-// Room for a plan of any hall.
-fn blank() -> [u8; 200]
-    ensures { λ r. ⌜ r ≡ replicate 200 0 ⌝ }
-{
-    [0u8; 200]
-}
-
 // The search of a hall that lies in the coded arrays, with rooms of its own for the plan and the best so far.
 pub(crate) fn solve(
     costs: &[u32],
@@ -76,8 +69,8 @@ pub(crate) fn solve(
     ensures { λ r. ⌜ Gives (hallOf (now (costs .entry)) (now (codes .entry)) (now (starts .entry)) m) budget r (now (room .entry)) (now (room .exit)) ⌝ }
 {
     let n = costs.len();
-    let mut plan = blank();
-    let mut best = blank();
+    let mut plan = plan_room();
+    let mut best = plan_room();
     run(
         costs,
         codes,

@@ -12,10 +12,11 @@ use lib.ListN.{length, getD, take, drop, length-append}
 use lib.IntN.{ℤ, pos}
 use lib.Seq.{sets-eq, take-append-seam, drop-drop, drop-at}
 use Rattle.hall.specs.Hall.{Entry, at1, at0, device, Rule, Hall}
-use Rattle.hall.specs.Ranges.{Each, RuleInRange, InRange, wordsOf, numberWords, entryWords, ruleWords, words, SheetOf}
+use Rattle.lists.specs.Lists.{Each}
+use Rattle.hall.specs.Ranges.{RuleInRange, HallInRange, wordsOf, numberWords, entryWords, ruleWords, words, SheetOf}
 use Rattle.hall.specs.Bound.{entries}
-use Rattle.hall.proofs.Each.{each-append}
-use Rattle.sheet.specs.Coded.{entryOf, entriesOf, rulesOf, hallOf, Laid, codeOf, codesOf, startsFrom}
+use Rattle.lists.proofs.Each.{each-append}
+use Rattle.sheet.specs.Coded.{entryOf, entriesOf, rulesOf, hallOf, Laid, entryCode, entryCodes, startsFrom}
 use Rattle.sheet.specs.Contract.{inFront, Holds}
 use Rattle.sheet.proofs.Standing.{entry-words-length, codes-append}
 
@@ -25,8 +26,8 @@ in-front numbers array l =
     let z : 0 + length numbers ≡ length numbers = omega arith in
     sets-eq numbers array 0 (omega arith) ∙ ap (λ (k : ℕ). numbers ++ drop k array) z
 
-pub codes-length : (es : List Entry) → length (codesOf es) ≡ length es
-unfolding codesOf
+pub codes-length : (es : List Entry) → length (entryCodes es) ≡ length es
+unfolding entryCodes
 codes-length [] = refl
 codes-length (e ∷ es) = ap suc (codes-length es)
 
@@ -46,21 +47,21 @@ drop-more : (l : List ℕ) (at k : ℕ) (xs ys : List ℕ) → drop at l ≡ xs 
 drop-more l at k xs ys h e = sym (drop-drop k at l) ∙ rw h (drop-at xs ys k e)
 
 -- ── codes ──
-code-entry : (e : Entry) → entryOf (codeOf e) ≡ e
-unfolding entryOf codeOf
+code-entry : (e : Entry) → entryOf (entryCode e) ≡ e
+unfolding entryOf entryCode
 code-entry (at1 v) = let a : (v + v) % 2 ≡ 0 = omega arith in let b : (v + v) / 2 ≡ v = omega arith in rw (a, b)
 code-entry (at0 v) = let a : (v + v + 1) % 2 ≡ 1 = omega arith in let b : (v + v + 1) / 2 ≡ v = omega arith in rw (a, b)
 
-code-device : (e : Entry) → codeOf e / 2 ≡ device e
-unfolding codeOf
+code-device : (e : Entry) → entryCode e / 2 ≡ device e
+unfolding entryCode
 code-device (at1 v) = omega arith
 code-device (at0 v) = omega arith
 
-entries-back : (codes : List ℕ) (at : ℕ) (es : Rule) (rest : List ℕ) → drop at codes ≡ codesOf es ++ rest → entriesOf codes at (length es) ≡ es
-unfolding entriesOf codesOf
+entries-back : (codes : List ℕ) (at : ℕ) (es : Rule) (rest : List ℕ) → drop at codes ≡ entryCodes es ++ rest → entriesOf codes at (length es) ≡ es
+unfolding entriesOf entryCodes
 entries-back codes at [] rest h = refl
 entries-back codes at (e ∷ es) rest h =
-    let i = drop-head codes at (codeOf e) (codesOf es ++ rest) h in
+    let i = drop-head codes at (entryCode e) (entryCodes es ++ rest) h in
     rw (i .0, code-entry e, entries-back codes (at + 1) es rest (i .1))
 
 -- ── rules ──
@@ -74,16 +75,16 @@ starts-tail : (first : ℕ) (x : Rule) (rs : List Rule) (starts : List ℕ) (r :
 unfolding startsFrom
 starts-tail first x rs starts r rest h = drop-head starts r first (startsFrom (first + length x) rs ++ rest) h .1
 
-rules-back : (codes starts : List ℕ) (first r : ℕ) (rs : List Rule) (rest rest′ : List ℕ) → drop first codes ≡ codesOf (entries rs) ++ rest → drop r starts ≡ startsFrom first rs ++ rest′ → rulesOf codes starts r (length rs) ≡ rs
+rules-back : (codes starts : List ℕ) (first r : ℕ) (rs : List Rule) (rest rest′ : List ℕ) → drop first codes ≡ entryCodes (entries rs) ++ rest → drop r starts ≡ startsFrom first rs ++ rest′ → rulesOf codes starts r (length rs) ≡ rs
 unfolding rulesOf entries
 rules-back codes starts first r [] rest rest′ h k = refl
 rules-back codes starts first r (x ∷ rs) rest rest′ h k =
-    let split : drop first codes ≡ codesOf x ++ (codesOf (entries rs) ++ rest) = h ∙ ap (λ (l : List ℕ). l ++ rest) (codes-append x (entries rs)) ∙ append-assoc (codesOf x) (codesOf (entries rs)) rest in
+    let split : drop first codes ≡ entryCodes x ++ (entryCodes (entries rs) ++ rest) = h ∙ ap (λ (l : List ℕ). l ++ rest) (codes-append x (entries rs)) ∙ append-assoc (entryCodes x) (entryCodes (entries rs)) rest in
     let tail = starts-tail first x rs starts r rest′ k in
     let a = starts-head first (x ∷ rs) starts r rest′ k in
     let b = starts-head (first + length x) rs starts (r + 1) rest′ tail in
     let w : first + length x - first ≡ length x = omega arith in
-    rw (a, b, w, entries-back codes first x (codesOf (entries rs) ++ rest) split, rules-back codes starts (first + length x) (r + 1) rs rest rest′ (drop-more codes first (length x) (codesOf x) _ split (codes-length x)) tail)
+    rw (a, b, w, entries-back codes first x (entryCodes (entries rs) ++ rest) split, rules-back codes starts (first + length x) (r + 1) rs rest rest′ (drop-more codes first (length x) (entryCodes x) _ split (codes-length x)) tail)
 
 -- ── place by place ──
 starts-laid : (n : ℕ) (starts : List ℕ) (first r₀ : ℕ) (rs : List Rule) (rest : List ℕ) → Each (RuleInRange n) rs → drop r₀ starts ≡ startsFrom first rs ++ rest → (r : ℕ) → r₀ ≤ r → r < r₀ + length rs
@@ -113,13 +114,13 @@ starts-last starts first r (x ∷ rs) rest h =
     let q : r + suc (length rs) ≡ r + 1 + length rs = omega arith in
     ap (λ (k : ℕ). getD starts k 0) q ∙ starts-last starts (first + length x) (r + 1) rs rest (starts-tail first x rs starts r rest h) ∙ omega (arith, length-append x (entries rs))
 
-codes-named : (n : ℕ) (codes : List ℕ) (at : ℕ) (es : List Entry) (rest : List ℕ) → Each (λ e. device e < n) es → drop at codes ≡ codesOf es ++ rest → (i : ℕ) → at ≤ i → i < at + length es → getD codes i 0 / 2 < n
-unfolding codesOf
+codes-named : (n : ℕ) (codes : List ℕ) (at : ℕ) (es : List Entry) (rest : List ℕ) → Each (λ e. device e < n) es → drop at codes ≡ entryCodes es ++ rest → (i : ℕ) → at ≤ i → i < at + length es → getD codes i 0 / 2 < n
+unfolding entryCodes
 codes-named n codes at [] rest b h i le lt = absurd (omega arith)
-codes-named n codes at (e ∷ es) rest b h i le lt = go (i - at) refl (λ l m. codes-named n codes (at + 1) es rest (b .1) (drop-head codes at (codeOf e) (codesOf es ++ rest) h .1) i l m)
+codes-named n codes at (e ∷ es) rest b h i le lt = go (i - at) refl (λ l m. codes-named n codes (at + 1) es rest (b .1) (drop-head codes at (entryCode e) (entryCodes es ++ rest) h .1) i l m)
   where
     go : (k : ℕ) → i - at ≡ k → (at + 1 ≤ i → i < at + 1 + length es → getD codes i 0 / 2 < n) → getD codes i 0 / 2 < n
-    go zero u ih = let q : i ≡ at = omega arith in rw (q, drop-head codes at (codeOf e) (codesOf es ++ rest) h .0, code-device e) (b .0)
+    go zero u ih = let q : i ≡ at = omega arith in rw (q, drop-head codes at (entryCode e) (entryCodes es ++ rest) h .0, code-device e) (b .0)
     go (suc k) u ih = ih (omega arith) (omega arith)
 
 entries-named : (n : ℕ) (rs : List Rule) → Each (RuleInRange n) rs → Each (λ e. device e < n) (entries rs)
@@ -151,8 +152,8 @@ module _ (h : Hall) (costs codes starts costs′ codes′ starts′ : List ℕ) 
   costs-front : costs′ ≡ h .costs ++ drop (length (h .costs)) costs
   costs-front = a .costs-hold ∙ in-front (h .costs) costs lc
 
-  codes-front : drop 0 codes′ ≡ codesOf (entries (h .rules)) ++ drop (length (codesOf (entries (h .rules)))) codes
-  codes-front = a .codes-hold ∙ in-front (codesOf (entries (h .rules))) codes (omega (arith, codes-length (entries (h .rules))))
+  codes-front : drop 0 codes′ ≡ entryCodes (entries (h .rules)) ++ drop (length (entryCodes (entries (h .rules)))) codes
+  codes-front = a .codes-hold ∙ in-front (entryCodes (entries (h .rules))) codes (omega (arith, codes-length (entries (h .rules))))
 
   starts-front : drop 0 starts′ ≡ startsFrom 0 (h .rules) ++ drop (length (startsFrom 0 (h .rules))) starts
   starts-front = a .starts-hold ∙ in-front (startsFrom 0 (h .rules)) starts (omega (arith, starts-length 0 (h .rules)))
@@ -168,7 +169,7 @@ module _ (h : Hall) (costs codes starts costs′ codes′ starts′ : List ℕ) 
       ap (λ (k : ℕ). getD starts′ k 0) (sym z) ∙ starts-last starts′ 0 0 (h .rules) _ starts-front ∙ zero-add (length (entries (h .rules)))
 
   -- starts rise, every rule lies within the codes and is at most 32 wide, every code names a device
-  pub hall-laid : InRange h → length (entries (h .rules)) ≤ length codes′ → Laid (length (h .costs)) codes′ starts′ (length (h .rules))
+  pub hall-laid : HallInRange h → length (entries (h .rules)) ≤ length codes′ → Laid (length (h .costs)) codes′ starts′ (length (h .rules))
   hall-laid r within =
       let n = length (h .costs) in
       record {

@@ -10,12 +10,13 @@ use lib.ListN.{length, drop, length-append}
 use lib.Seq.{sets}
 use lib.IntN.{ℤ, pos}
 use Rattle.hall.specs.Hall.{Hall}
-use Rattle.hall.specs.Ranges.{Each, RuleInRange, wordsOf, numberWords, ruleWords, words, SheetOf}
+use Rattle.lists.specs.Lists.{Each}
+use Rattle.hall.specs.Ranges.{RuleInRange, wordsOf, numberWords, ruleWords, words, SheetOf}
 use Rattle.hall.specs.Bound.{entries}
 use Rattle.hall.specs.Reading.{Fault, tooShort, badCount, badCost, badEntry, extraWords, smallRoom, tooLong, Read, bad, got, decode}
 use Rattle.hall.proofs.Reading.{past}
 use Rattle.hall.proofs.Reasons.{decoded}
-use Rattle.sheet.specs.Coded.{codesOf, startsFrom}
+use Rattle.sheet.specs.Coded.{entryCodes, startsFrom}
 use Rattle.sheet.specs.Word.{numbersFrom}
 use Rattle.sheet.specs.Check.{kindOf, sheetOf}
 use Rattle.sheet.specs.Placed.{codesIn, startsIn, RulesStand, RulesPut}
@@ -136,7 +137,7 @@ module _ (ws : List ℤ) (room : ℕ) (s : Sheet) (e : s ≡ sheetOf (decode roo
       good : Each (RuleInRange n) (h .rules)
       good = subst (λ (k : ℕ). Each (RuleInRange k) (h .rules)) (a .devices) (a .sheet-of .ranges .good)
 
-      codes-are : codesIn n ws (n + 2) m ≡ codesOf (entries (h .rules))
+      codes-are : codesIn n ws (n + 2) m ≡ entryCodes (entries (h .rules))
       codes-are = ap (codesIn n ws (n + 2)) (sym (a .count)) ∙ codes-stand n ws (n + 2) (h .rules) good here
 
       starts-are : startsIn ws (n + 2) 0 m ≡ startsFrom 0 (h .rules)

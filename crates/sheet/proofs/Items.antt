@@ -15,8 +15,8 @@ use lib.Dec.{ltb}
 use borrow.Author.Tests.{le-leb, lt-leb, lt-ltb, le-ltb, ltb-true}
 use Rattle.hall.specs.Hall.{Entry, at1, at0, device}
 use Rattle.hall.specs.Reading.{Fault, tooShort, Read, bad, got, asRead, atWord, word, onlyIf, upTo, asEntry}
-use Rattle.sheet.specs.Coded.{codeOf}
-use Rattle.sheet.specs.Word.{wordOf, itemBy, itemOf, codeBy, codeIn, numberOf, codeOrZero}
+use Rattle.sheet.specs.Coded.{entryCode}
+use Rattle.sheet.specs.Word.{wordOf, itemBy, itemOf, codeBy, codeIn, numberIn, codeOrZero}
 use Rattle.sheet.specs.declared.word.Word.{Word}
 use Rattle.sheet.specs.declared.word.Word.the-variants as word-is
 use Rattle.sheet.specs.declared.word.Item.{Item}
@@ -75,7 +75,7 @@ module _ (o : Option ℤ) (w : Word) (e : w ≡ wordOf o) where
   entry-zero v n f z = rw (is-up o w v e f, z)
 
   pub entry-at1 : (v n : ℕ) → w ≡ word-is.Up v → (v ≡ 0 → ⊥) → v ≤ n → item.Is (2 * (v - 1)) ≡ itemOf (codeIn n) o
-  unfolding codeOf
+  unfolding entryCode
   entry-at1 v n f z l = rw (is-up o w v e f) (go v z l)
     where
       go : (v : ℕ) → (v ≡ 0 → ⊥) → v ≤ n → item.Is (2 * (v - 1)) ≡ itemOf (codeIn n) (some (pos v))
@@ -90,20 +90,20 @@ module _ (o : Option ℤ) (w : Word) (e : w ≡ wordOf o) where
       go (suc v) l = rw (le-ltb v n (omega arith))
 
   pub entry-at0 : (v n : ℕ) → w ≡ word-is.Down v → v < n → item.Is (2 * v + 1) ≡ itemOf (codeIn n) o
-  unfolding codeOf
+  unfolding entryCode
   entry-at0 v n f l = rw (is-down o w v e f, lt-ltb v n l) (ap item.Is (omega arith))
 
   pub entry-below : (v n : ℕ) → w ≡ word-is.Down v → n ≤ v → item.Outside ≡ itemOf (codeIn n) o
   entry-below v n f l = rw (is-down o w v e f, le-ltb v n l)
 
   -- what stands on a good sheet
-  pub value-up : (v : ℕ) → w ≡ word-is.Up v → v ≡ numberOf (wordOf o)
+  pub value-up : (v : ℕ) → w ≡ word-is.Up v → v ≡ numberIn (wordOf o)
   value-up v f = rw (is-up o w v e f)
 
-  pub value-down : (v : ℕ) → w ≡ word-is.Down v → 0 ≡ numberOf (wordOf o)
+  pub value-down : (v : ℕ) → w ≡ word-is.Down v → 0 ≡ numberIn (wordOf o)
   value-down v f = rw (is-down o w v e f)
 
-  pub value-missing : w ≡ word-is.Missing → 0 ≡ numberOf (wordOf o)
+  pub value-missing : w ≡ word-is.Missing → 0 ≡ numberIn (wordOf o)
   value-missing f = rw (is-missing o w e f)
 
 module _ (n : ℕ) (o : Option ℤ) (told : Item) (e : told ≡ itemOf (codeIn n) o) where
@@ -118,7 +118,7 @@ module _ (n : ℕ) (o : Option ℤ) (told : Item) (e : told ≡ itemOf (codeIn n
 
   -- a code is less than twice n
   pub code-small : (c : ℕ) → told ≡ item.Is c → c < n + n
-  unfolding codeOf
+  unfolding entryCode
   code-small c f = go o (sym e ∙ f)
     where
       by : (t : Bool) (v : ℕ) (d : Entry) → device d ≡ v → ltb v n ≡ t → itemBy (codeBy (onlyIf t d)) ≡ item.Is c → c < n + n

@@ -7,7 +7,7 @@ use native.Mathlib.Omega.{arith}
 use lib.IntN.{ℤ}
 use Rattle.hall.specs.Hall.{Hall}
 use Rattle.hall.specs.Reading.{Read, bad, got, decode}
-use Rattle.sheet.specs.Contract.{codeOfKind, numbersOf, ArraysAfter, Decodes}
+use Rattle.sheet.specs.Contract.{refusalCode, numbersOf, ArraysAfter, Decodes}
 use Rattle.sheet.specs.declared.Refusal.{Refusal}
 use Rattle.sheet.specs.declared.Refusal.the-variants.{TooShort, BadCount, BadCost, BadEntry, ExtraWords, SmallRoom, TooLong}
 use Rattle.sheet.specs.declared.Sheet.{Sheet}
@@ -23,7 +23,7 @@ kindAt (suc (suc (suc (suc zero)))) = ExtraWords
 kindAt (suc (suc (suc (suc (suc zero))))) = SmallRoom
 kindAt (suc (suc (suc (suc (suc (suc k)))))) = TooLong
 
-kind-back : (k : Refusal) → kindAt (codeOfKind k - 11) ≡ k
+kind-back : (k : Refusal) → kindAt (refusalCode k - 11) ≡ k
 unfolding kindAt
 kind-back TooShort = refl
 kind-back BadCount = refl
@@ -33,7 +33,7 @@ kind-back ExtraWords = refl
 kind-back SmallRoom = refl
 kind-back TooLong = refl
 
-pub code-injective : (k l : Refusal) → codeOfKind k ≡ codeOfKind l → k ≡ l
+pub code-injective : (k l : Refusal) → refusalCode k ≡ refusalCode l → k ≡ l
 code-injective k l e = sym (kind-back k) ∙ ap (λ (c : ℕ). kindAt (c - 11)) e ∙ kind-back l
 
 pub numbers-injective : (r s : Sheet) → numbersOf r ≡ numbersOf s → r ≡ s
@@ -41,7 +41,7 @@ numbers-injective (sheet.Hall n m) (sheet.Hall n′ m′) e = let a : n ≡ n′
 numbers-injective (sheet.Hall n m) (sheet.Refused k p) e = absurd (let z : _≡_ {A = ℕ} 0 1 = cc in omega arith)
 numbers-injective (sheet.Refused k p) (sheet.Hall n m) e = absurd (let z : _≡_ {A = ℕ} 0 1 = cc in omega arith)
 numbers-injective (sheet.Refused k p) (sheet.Refused l q) e =
-    let c : codeOfKind k ≡ codeOfKind l = cc in
+    let c : refusalCode k ≡ refusalCode l = cc in
     let a = code-injective k l c in
     let b : p ≡ q = cc in
     rw (a, b)

@@ -1,6 +1,6 @@
 -- Writing into the arrays: while something is left to write, writing it leaves what writing the whole leaves.
 --
--- In order: a run of values (`run-more`, `run-end`, `run-length`); one run behind another (`sets-append`); rules, their codes
+-- In order: a run of values (`run-more`, `run-end`, `run-length`); rules, their codes
 -- and their starts (`codes-more`, `starts-more`, `starts-end`). Assumes nothing.
 use mathlib.Core.Path.{_≡_, refl, sym, _∙_, ap}
 use mathlib.Core.List.{List, [], _∷_, _++_}
@@ -10,6 +10,7 @@ use native.Mathlib.Omega.{arith}
 use lib.ListN.{length, set}
 use lib.Seq.{sets}
 use lib.IntN.{ℤ}
+use Rattle.lists.proofs.InFront.{sets-append}
 use Rattle.sheet.specs.Word.{valueAt, run, codesFrom}
 use Rattle.sheet.specs.Placed.{codesIn, startsIn}
 
@@ -33,11 +34,6 @@ module _ (f : ℕ → ℕ) (array : List ℕ) (k at left : ℕ) (whole : List �
   pub run-end : left ≡ 0 → array ≡ whole
   unfolding run
   run-end e = rw e at inv
-
--- ── one run behind another ──
-pub sets-append : (array : List ℕ) (k : ℕ) (a b : List ℕ) → sets array k (a ++ b) ≡ sets (sets array k a) (k + length a) b
-sets-append array k [] b = ap (λ (i : ℕ). sets array i b) (omega arith)
-sets-append array k (v ∷ a) b = sets-append (set array k v) (suc k) a b ∙ ap (λ (i : ℕ). sets (sets (set array k v) (suc k) a) i b) (omega arith)
 
 -- ── rules ──
 codes-one : (n : ℕ) (ws : List ℤ) (at left : ℕ) → (left ≡ 0 → ⊥) → codesIn n ws at left ≡ codesFrom n ws (at + 1) (valueAt ws at) ++ codesIn n ws (at + 1 + valueAt ws at) (left - 1)

@@ -10,10 +10,11 @@ use lib.ListN.{length, drop, length-append, length-drop}
 use lib.IntN.{ℤ, pos}
 use borrow.Author.Tests.{lt-ltb}
 use Rattle.hall.specs.Hall.{Entry, at1, at0, device, Rule}
-use Rattle.hall.specs.Ranges.{Each, RuleInRange, wordsOf, numberWords, entryWords, ruleWords}
+use Rattle.lists.specs.Lists.{Each}
+use Rattle.hall.specs.Ranges.{RuleInRange, wordsOf, numberWords, entryWords, ruleWords}
 use Rattle.hall.specs.Bound.{entries}
 use Rattle.hall.proofs.Reading.{drop-word, past}
-use Rattle.sheet.specs.Coded.{codeOf, codesOf, startsFrom}
+use Rattle.sheet.specs.Coded.{entryCode, entryCodes, startsFrom}
 use Rattle.sheet.specs.Word.{valueAt, codeAt, run, numbersFrom, codesFrom}
 use Rattle.sheet.specs.Placed.{codesIn, startsIn, RulesStand}
 
@@ -73,7 +74,7 @@ costs-stand ws at (c ∷ cs) rest e =
     rw (drop-word ws at (pos c) (wordsOf numberWords cs ++ rest) e, costs-stand ws (at + 1) cs rest (past ws at (pos c ∷ []) (wordsOf numberWords cs ++ rest) e))
 
 -- the codes of a rule's entries
-code-stands : (n : ℕ) (ws : List ℤ) (at : ℕ) (e : Entry) (rest : List ℤ) → device e < n → drop at ws ≡ entryWords e ++ rest → codeAt n ws at ≡ codeOf e
+code-stands : (n : ℕ) (ws : List ℤ) (at : ℕ) (e : Entry) (rest : List ℤ) → device e < n → drop at ws ≡ entryWords e ++ rest → codeAt n ws at ≡ entryCode e
 code-stands n ws at (at1 v) rest l e = rw (drop-word ws at _ rest e, lt-ltb v n l)
 code-stands n ws at (at0 v) rest l e = rw (drop-word ws at _ rest e, lt-ltb v n l)
 
@@ -81,27 +82,27 @@ entry-width : (e : Entry) → length (entryWords e) ≡ 1
 entry-width (at1 v) = refl
 entry-width (at0 v) = refl
 
-entries-stand : (n : ℕ) (ws : List ℤ) (at : ℕ) (r : Rule) (rest : List ℤ) → Each (λ e. device e < n) r → drop at ws ≡ wordsOf entryWords r ++ rest → codesFrom n ws at (length r) ≡ codesOf r
-unfolding run wordsOf codesOf
+entries-stand : (n : ℕ) (ws : List ℤ) (at : ℕ) (r : Rule) (rest : List ℤ) → Each (λ e. device e < n) r → drop at ws ≡ wordsOf entryWords r ++ rest → codesFrom n ws at (length r) ≡ entryCodes r
+unfolding run wordsOf entryCodes
 entries-stand n ws at [] rest g e = refl
 entries-stand n ws at (d ∷ r) rest g e =
     let here : drop at ws ≡ entryWords d ++ (wordsOf entryWords r ++ rest) = e ∙ append-assoc (entryWords d) (wordsOf entryWords r) rest in
     let next : drop (at + 1) ws ≡ wordsOf entryWords r ++ rest = ap (λ (k : ℕ). drop (at + k) ws) (sym (entry-width d)) ∙ past ws at (entryWords d) (wordsOf entryWords r ++ rest) here in
     rw (code-stands n ws at d (wordsOf entryWords r ++ rest) (g .0) here, entries-stand n ws (at + 1) r rest (g .1) next)
 
-pub codes-append : (a b : List Entry) → codesOf (a ++ b) ≡ codesOf a ++ codesOf b
-unfolding codesOf
+pub codes-append : (a b : List Entry) → entryCodes (a ++ b) ≡ entryCodes a ++ entryCodes b
+unfolding entryCodes
 codes-append [] b = refl
-codes-append (e ∷ a) b = ap (λ (l : List ℕ). codeOf e ∷ l) (codes-append a b)
+codes-append (e ∷ a) b = ap (λ (l : List ℕ). entryCode e ∷ l) (codes-append a b)
 
 -- the codes and the starts of the rules
-pub codes-stand : (n : ℕ) (ws : List ℤ) (at : ℕ) (rs : List Rule) → Each (RuleInRange n) rs → drop at ws ≡ wordsOf ruleWords rs → codesIn n ws at (length rs) ≡ codesOf (entries rs)
-unfolding codesIn wordsOf entries codesOf
+pub codes-stand : (n : ℕ) (ws : List ℤ) (at : ℕ) (rs : List Rule) → Each (RuleInRange n) rs → drop at ws ≡ wordsOf ruleWords rs → codesIn n ws at (length rs) ≡ entryCodes (entries rs)
+unfolding codesIn wordsOf entries entryCodes
 codes-stand n ws at [] g e = refl
 codes-stand n ws at (r ∷ rs) g e = made (rule-stands ws at r (wordsOf ruleWords rs) e) (codes-stand n ws (at + 1 + length r) rs (g .1))
   where
-    made : RuleStands ws at r (wordsOf ruleWords rs) → (drop (at + 1 + length r) ws ≡ wordsOf ruleWords rs → codesIn n ws (at + 1 + length r) (length rs) ≡ codesOf (entries rs))
-        → codesFrom n ws (at + 1) (valueAt ws at) ++ codesIn n ws (at + 1 + valueAt ws at) (length rs) ≡ codesOf (r ++ entries rs)
+    made : RuleStands ws at r (wordsOf ruleWords rs) → (drop (at + 1 + length r) ws ≡ wordsOf ruleWords rs → codesIn n ws (at + 1 + length r) (length rs) ≡ entryCodes (entries rs))
+        → codesFrom n ws (at + 1) (valueAt ws at) ++ codesIn n ws (at + 1 + valueAt ws at) (length rs) ≡ entryCodes (r ++ entries rs)
     made t ih = rw (t .width, entries-stand n ws (at + 1) r (wordsOf ruleWords rs) (g .0 .named) (t .behind), ih (t .next)) (sym (codes-append r (entries rs)))
 
 pub starts-stand : (ws : List ℤ) (at first : ℕ) (rs : List Rule) → drop at ws ≡ wordsOf ruleWords rs → startsIn ws at first (length rs) ≡ startsFrom first rs

@@ -1,19 +1,19 @@
 -- How a hall lies in the coded arrays, and how it is read back.
 --
 -- In order: an entry as a code; a rule, by its start and the next one; all rules; the hall (`hallOf`); what holds of arrays in which
--- a hall lies (`Laid`); the other way round, what the arrays hold of a hall (`codesOf`, `startsOf`). Definitions only.
+-- a hall lies (`Laid`); the other way round, what the arrays hold of a hall (`entryCodes`, `startsFrom`). Definitions only.
 use mathlib.Core.List.{List, [], _∷_}
 use Prim.Native.Nat.{ℕ, zero, suc, _+_, _-_, _/_, _%_, _≤_, _<_}
 use lib.ListN.{length, getD}
 use Rattle.hall.specs.Hall.{Entry, at1, at0, Rule, Hall}
 
 -- a code is twice the device, and one more where the device is kept at position 0
-abbrev pub entryBy : ℕ → ℕ → Entry
-entryBy zero v = at1 v
-entryBy (suc odd) v = at0 v
+abbrev pub entryFrom : ℕ → ℕ → Entry
+entryFrom zero v = at1 v
+entryFrom (suc odd) v = at0 v
 
 unfoldable pub entryOf : ℕ → Entry
-entryOf code = entryBy (code % 2) (code / 2)
+entryOf code = entryFrom (code % 2) (code / 2)
 
 -- the entries of so many codes from a place on
 unfoldable pub entriesOf : List ℕ → ℕ → ℕ → Rule
@@ -42,13 +42,13 @@ pub record Laid (n : ℕ) (codes starts : List ℕ) (m : ℕ) : Type 0 where
   pub named : (i : ℕ) → i < getD starts m 0 → getD codes i 0 / 2 < n
 
 -- the code of an entry, the codes of entries
-unfoldable pub codeOf : Entry → ℕ
-codeOf (at1 v) = v + v
-codeOf (at0 v) = v + v + 1
+unfoldable pub entryCode : Entry → ℕ
+entryCode (at1 v) = v + v
+entryCode (at0 v) = v + v + 1
 
-unfoldable pub codesOf : List Entry → List ℕ
-codesOf [] = []
-codesOf (e ∷ es) = codeOf e ∷ codesOf es
+unfoldable pub entryCodes : List Entry → List ℕ
+entryCodes [] = []
+entryCodes (e ∷ es) = entryCode e ∷ entryCodes es
 
 -- the starts of rules whose first entry has this place, and the place behind the last
 unfoldable pub startsFrom : ℕ → List Rule → List ℕ

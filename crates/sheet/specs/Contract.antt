@@ -9,8 +9,8 @@ use lib.Seq.{sets}
 use lib.IntN.{ℤ}
 use Rattle.hall.specs.Hall.{Hall}
 use Rattle.hall.specs.Bound.{entries}
-use Rattle.hall.specs.Reading.{Fault, tooShort, badCount, badCost, badEntry, extraWords, smallRoom, tooLong, codeOf, Read, bad, got, decode}
-use Rattle.sheet.specs.Coded.{codesOf, startsFrom}
+use Rattle.hall.specs.Reading.{Fault, tooShort, badCount, badCost, badEntry, extraWords, smallRoom, tooLong, faultCode, Read, bad, got, decode}
+use Rattle.sheet.specs.Coded.{entryCodes, startsFrom}
 use Rattle.sheet.specs.declared.Refusal.{Refusal}
 use Rattle.sheet.specs.declared.Refusal.the-variants.{TooShort, BadCount, BadCost, BadEntry, ExtraWords, SmallRoom, TooLong}
 use Rattle.sheet.specs.declared.Sheet.{Sheet}
@@ -26,16 +26,16 @@ faultOf ExtraWords = extraWords
 faultOf SmallRoom = smallRoom
 faultOf TooLong = tooLong
 
-abbrev pub codeOfKind : Refusal → ℕ
-codeOfKind kind = codeOf (faultOf kind)
+abbrev pub refusalCode : Refusal → ℕ
+refusalCode kind = faultCode (faultOf kind)
 
 -- the numbers of an answer: 0 and the numbers of devices and rules, or the code and the place
 abbrev pub numbersOf : Sheet → List ℕ
 numbersOf (sheet.Hall n m) = 0 ∷ n ∷ m ∷ []
-numbersOf (sheet.Refused kind place) = codeOfKind kind ∷ place ∷ []
+numbersOf (sheet.Refused kind place) = refusalCode kind ∷ place ∷ []
 
 abbrev pub numbersRead : Read Hall → List ℕ
-numbersRead (bad f i) = codeOf f ∷ i ∷ []
+numbersRead (bad f i) = faultCode f ∷ i ∷ []
 numbersRead (got h j) = 0 ∷ length (h .costs) ∷ length (h .rules) ∷ []
 
 -- numbers stored one after another from the front of an array on; what lies behind them is unchanged
@@ -50,7 +50,7 @@ pub record Kept (costs codes starts costs' codes' starts' : List ℕ) : Type 0 w
 
 pub record Holds (h : Hall) (costs codes starts costs' codes' starts' : List ℕ) : Type 0 where
   pub costs-hold : costs' ≡ inFront (h .costs) costs
-  pub codes-hold : codes' ≡ inFront (codesOf (entries (h .rules))) codes
+  pub codes-hold : codes' ≡ inFront (entryCodes (entries (h .rules))) codes
   pub starts-hold : starts' ≡ inFront (startsFrom 0 (h .rules)) starts
 
 abbrev pub ArraysAfter : Read Hall → (costs codes starts costs' codes' starts' : List ℕ) → Type 0

@@ -9,7 +9,8 @@ use lib.ListN.{length, drop}
 use lib.Seq.{sets}
 use lib.IntN.{ℤ}
 use Rattle.hall.specs.Hall.{Rule}
-use Rattle.hall.specs.Ranges.{Each, RuleInRange, wordsOf, ruleWords}
+use Rattle.lists.specs.Lists.{Each}
+use Rattle.hall.specs.Ranges.{RuleInRange, wordsOf, ruleWords}
 use Rattle.sheet.specs.Word.{valueAt, codesFrom}
 
 -- the codes of so many rules of n devices, the first of which has its width at a place

@@ -9,7 +9,7 @@ use lib.ListN.{getElem?}
 use lib.IntN.{ℤ, pos, negsuc}
 use Rattle.hall.specs.Hall.{Entry}
 use Rattle.hall.specs.Reading.{asEntry}
-use Rattle.sheet.specs.Coded.{codeOf}
+use Rattle.sheet.specs.Coded.{entryCode}
 use Rattle.sheet.specs.declared.word.Word.{Word}
 use Rattle.sheet.specs.declared.word.Word.the-variants as word
 use Rattle.sheet.specs.declared.word.Item.{Item}
@@ -32,19 +32,19 @@ itemOf value (some w) = itemBy (value w)
 -- the code of an entry of one of n devices
 abbrev pub codeBy : Option Entry → Option ℕ
 codeBy none = none
-codeBy (some e) = some (codeOf e)
+codeBy (some e) = some (entryCode e)
 
 abbrev pub codeIn : ℕ → ℤ → Option ℕ
 codeIn n w = codeBy (asEntry n w)
 
 -- the number at a place, 0 where there is none
-abbrev pub numberOf : Word → ℕ
-numberOf (word.Up n) = n
-numberOf (word.Down n) = 0
-numberOf word.Missing = 0
+abbrev pub numberIn : Word → ℕ
+numberIn (word.Up n) = n
+numberIn (word.Down n) = 0
+numberIn word.Missing = 0
 
 abbrev pub valueAt : List ℤ → ℕ → ℕ
-valueAt ws at = numberOf (wordOf (getElem? ws at))
+valueAt ws at = numberIn (wordOf (getElem? ws at))
 
 -- the code at a place, 0 where there is none
 abbrev pub codeOrZero : Item → ℕ

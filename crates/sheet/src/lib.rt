@@ -3,7 +3,7 @@
 // The sheet is checked first, from left to right, and nothing is written (check). A good sheet is then coded into the arrays that
 // the caller lends (coding). One function alone reads a signed word (word); all else is unsigned.
 ghost use mathlib.Core.Path.{_≡_};
-ghost use Rattle.sheet.specs.Contract.{codeOfKind, Decodes};
+ghost use Rattle.sheet.specs.Contract.{refusalCode, Decodes};
 
 mod check;
 mod coding;
@@ -28,7 +28,7 @@ pub enum Sheet {
 
 // The paper's code of a kind.
 pub fn code_of(refusal: Refusal) -> u32
-    ensures { λ r. ⌜ r ≡ codeOfKind refusal ⌝ }
+    ensures { λ r. ⌜ r ≡ refusalCode refusal ⌝ }
 {
     match refusal {
         Refusal::TooShort => 11,

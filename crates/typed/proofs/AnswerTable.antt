@@ -3,24 +3,24 @@
 -- printed words (`printings-right`). Assumes nothing.
 use mathlib.Core.Path.{_≡_, refl}
 use mathlib.Core.List.{map}
-use Rattle.typed.specs.Text.{front, tokensFrom, decimal, numberOf, wordsOf, readText}
+use Rattle.typed.specs.Text.{front, tokensFrom, decimal, numberOf, readTokens, readText}
 use Rattle.typed.specs.Printing.{digitsBy, printed}
-use Rattle.typed.specs.Table.{Row, outcome, accepted, wrongBytes, badNumbers, rooms, samples, printings}
+use Rattle.typed.specs.Table.{Row, effect, accepted, wrongBytes, badNumbers, rooms, samples, printings}
 
-pub accepted-right : map outcome accepted ≡ map (λ (r : Row). r .expected) accepted
-unfolding accepted outcome readText wordsOf numberOf decimal tokensFrom front
+pub accepted-right : map effect accepted ≡ map (λ (r : Row). r .expected) accepted
+unfolding accepted effect readText readTokens numberOf decimal tokensFrom front
 accepted-right = refl
 
-pub wrong-bytes-right : map outcome wrongBytes ≡ map (λ (r : Row). r .expected) wrongBytes
-unfolding wrongBytes outcome readText wordsOf numberOf decimal tokensFrom front
+pub wrong-bytes-right : map effect wrongBytes ≡ map (λ (r : Row). r .expected) wrongBytes
+unfolding wrongBytes effect readText readTokens numberOf decimal tokensFrom front
 wrong-bytes-right = refl
 
-pub bad-numbers-right : map outcome badNumbers ≡ map (λ (r : Row). r .expected) badNumbers
-unfolding badNumbers outcome readText wordsOf numberOf decimal tokensFrom front
+pub bad-numbers-right : map effect badNumbers ≡ map (λ (r : Row). r .expected) badNumbers
+unfolding badNumbers effect readText readTokens numberOf decimal tokensFrom front
 bad-numbers-right = refl
 
-pub rooms-right : map outcome rooms ≡ map (λ (r : Row). r .expected) rooms
-unfolding rooms outcome readText wordsOf numberOf decimal tokensFrom front
+pub rooms-right : map effect rooms ≡ map (λ (r : Row). r .expected) rooms
+unfolding rooms effect readText readTokens numberOf decimal tokensFrom front
 rooms-right = refl
 
 pub printings-right : map printed samples ≡ printings

@@ -8,8 +8,8 @@ use Prim.Native.Nat.{ℕ, _+_, _-_, _≤_, _<_}
 use native.Mathlib.Omega.{arith}
 use lib.ListN.{length}
 use lib.IntN.{ℤ}
-use Rattle.typed.specs.Text.{Read, refused, got, then, tokens, wordsOf}
-use Rattle.typed.specs.Answer.{answered}
+use Rattle.typed.specs.Text.{Read, refused, got, then, tokens, readTokens}
+use Rattle.typed.specs.Answer.{readingOf}
 use Rattle.typed.specs.Steps.{tokensAt, FoundWord, FoundMistake, NextIs}
 use Rattle.typed.specs.declared.Mistake.{Mistake}
 use Rattle.typed.specs.declared.Mistake.the-variants.{NoRoom}
@@ -28,47 +28,47 @@ counted-one : (n : ℕ) (z : ℤ) (r : Read (List ℤ)) → counted n (then r λ
 counted-one n z (refused m place) = refl
 counted-one n z (got words) = ap Words (omega arith)
 
-counted-none : (r : Read (List ℤ)) → counted 0 r ≡ answered r
+counted-none : (r : Read (List ℤ)) → counted 0 r ≡ readingOf r
 counted-none (refused m place) = refl
 counted-none (got words) = ap Words (omega arith)
 
 pub record Counting (text : List ℕ) (room i n : ℕ) : Type 0 where
   pub inside : i ≤ length text
   pub holds : n ≤ room
-  pub answer : counted n (wordsOf (room - n) (tokensAt text i)) ≡ answered (wordsOf room (tokens text))
+  pub answer : counted n (readTokens (room - n) (tokensAt text i)) ≡ readingOf (readTokens room (tokens text))
 
 pub counting-start : (text : List ℕ) (room : ℕ) → Counting text room 0 0
 counting-start text room = record {
   inside = omega arith;
   holds = omega arith;
-  answer = counted-none (wordsOf (room - 0) (tokens text)) ∙ ap (λ (k : ℕ). answered (wordsOf k (tokens text))) (omega arith);
+  answer = counted-none (readTokens (room - 0) (tokens text)) ∙ ap (λ (k : ℕ). readingOf (readTokens k (tokens text))) (omega arith);
 }
 
 module _ {text : List ℕ} {room i n : ℕ} (c : Counting text room i n) where
-  ends-by : {x : Read (List ℤ)} → wordsOf (room - n) (tokensAt text i) ≡ x → counted n x ≡ answered (wordsOf room (tokens text))
+  ends-by : {x : Read (List ℤ)} → readTokens (room - n) (tokensAt text i) ≡ x → counted n x ≡ readingOf (readTokens room (tokens text))
   ends-by e = sym (ap (counted n) e) ∙ c .answer
 
 module _ {text : List ℕ} {room i n : ℕ} (c : Counting text room i n) {r : Next} (h : NextIs text i r) where
-  pub counting-end : r ≡ End → Words n ≡ answered (wordsOf room (tokens text))
-  counting-end e = ap Words (omega arith) ∙ ends-by c (ap (wordsOf (room - n)) (subst (NextIs text i) e h) ∙ none-left (room - n))
+  pub counting-end : r ≡ End → Words n ≡ readingOf (readTokens room (tokens text))
+  counting-end e = ap Words (omega arith) ∙ ends-by c (ap (readTokens (room - n)) (subst (NextIs text i) e h) ∙ none-left (room - n))
 
-  pub counting-bad : {m : Mistake} {place : ℕ} → r ≡ Bad m place → Refused m place ≡ answered (wordsOf room (tokens text))
+  pub counting-bad : {m : Mistake} {place : ℕ} → r ≡ Bad m place → Refused m place ≡ readingOf (readTokens room (tokens text))
   counting-bad {m} {place} e =
       let f : FoundMistake text i m place = subst (NextIs text i) e h in
-      ends-by c (ap (wordsOf (room - n)) (f .first) ∙ one-bad (room - n) (f .token) (f .rest) m place (f .says))
+      ends-by c (ap (readTokens (room - n)) (f .first) ∙ one-bad (room - n) (f .token) (f .rest) m place (f .says))
 
   module _ {z : ℤ} {start end : ℕ} (e : r ≡ Found z start end) where
     pub counting-word : FoundWord text i z start end
     counting-word = subst (NextIs text i) e h
 
-    pub counting-full : room ≤ n → Refused NoRoom start ≡ answered (wordsOf room (tokens text))
+    pub counting-full : room ≤ n → Refused NoRoom start ≡ readingOf (readTokens room (tokens text))
     counting-full l =
         let f = counting-word in
         let k : room - n ≡ 0 = omega arith in
         ap (Refused NoRoom) (sym (f .place))
         ∙ ends-by c
-        (ap (wordsOf (room - n)) (f .first)
-        ∙ ap (λ (k : ℕ). wordsOf k (f .token ∷ tokensAt text end)) k
+        (ap (readTokens (room - n)) (f .first)
+        ∙ ap (λ (k : ℕ). readTokens k (f .token ∷ tokensAt text end)) k
         ∙ no-room (f .token) (tokensAt text end) z (f .says))
 
     pub counting-more : n < room → Counting text room end (n + 1)
@@ -79,7 +79,7 @@ module _ {text : List ℕ} {room i n : ℕ} (c : Counting text room i n) {r : Ne
           inside = f .inside;
           holds = omega arith;
           answer =
-              ap (λ (k : ℕ). counted (n + 1) (wordsOf k (tokensAt text end))) k
-              ∙ sym (counted-one n z (wordsOf (room - n - 1) (tokensAt text end)))
-              ∙ ends-by c (ap (wordsOf (room - n)) (f .first) ∙ got-one (f .token) (tokensAt text end) z (f .says) (room - n) (omega arith));
+              ap (λ (k : ℕ). counted (n + 1) (readTokens k (tokensAt text end))) k
+              ∙ sym (counted-one n z (readTokens (room - n - 1) (tokensAt text end)))
+              ∙ ends-by c (ap (readTokens (room - n)) (f .first) ∙ got-one (f .token) (tokensAt text end) z (f .says) (room - n) (omega arith));
         }

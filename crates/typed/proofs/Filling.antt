@@ -10,7 +10,7 @@ use native.Mathlib.Numerals.{add-one}
 use lib.ListN.{length, take, drop, set, length-set, take-append-drop}
 use lib.Seq.{take-suc-set, drop-set-lt, drop-drop, length-take-le}
 use lib.IntN.{ℤ}
-use Rattle.typed.specs.Text.{Read, got, tokens, wordsOf}
+use Rattle.typed.specs.Text.{Read, got, tokens, readTokens}
 use Rattle.typed.specs.Answer.{roomAfter}
 use Rattle.typed.specs.Steps.{tokensAt, FoundWord, FoundMistake, NextIs, Taken}
 use Rattle.typed.specs.declared.Mistake.{Mistake}
@@ -21,8 +21,8 @@ use Rattle.typed.proofs.Taking.{none-left, one-bad, clash, Took, took}
 pub record Filling (text : List ℕ) (before : List ℤ) (i n : ℕ) (now : List ℤ) : Type 0 where
   pub inside : i ≤ length text
   pub left : List ℤ
-  pub rest : wordsOf (length before - n) (tokensAt text i) ≡ got left
-  pub whole : wordsOf (length before) (tokens text) ≡ got (take n now ++ left)
+  pub rest : readTokens (length before - n) (tokensAt text i) ≡ got left
+  pub whole : readTokens (length before) (tokens text) ≡ got (take n now ++ left)
   pub holds : n ≤ length before
   pub kept : drop n now ≡ drop n before
   pub same : length now ≡ length before
@@ -31,7 +31,7 @@ pub filling-start : {text : List ℕ} {before : List ℤ} → Taken text (length
 filling-start {text} {before} t = record {
   inside = omega arith;
   left = t .words;
-  rest = ap (λ (k : ℕ). wordsOf k (tokens text)) (omega arith) ∙ t .read;
+  rest = ap (λ (k : ℕ). readTokens k (tokens text)) (omega arith) ∙ t .read;
   whole = t .read;
   holds = omega arith;
   kept = refl;
@@ -39,13 +39,13 @@ filling-start {text} {before} t = record {
 }
 
 module _ {text : List ℕ} {before now : List ℤ} {i n : ℕ} (g : Filling text before i n now) {r : Next} (h : NextIs text i r) where
-  pub filling-end : r ≡ End → now ≡ roomAfter (wordsOf (length before) (tokens text)) before
+  pub filling-end : r ≡ End → now ≡ roomAfter (readTokens (length before) (tokens text)) before
   filling-end e =
-      let none : got (g .left) ≡ got [] = sym (g .rest) ∙ ap (wordsOf (length before - n)) (subst (NextIs text i) e h) ∙ none-left (length before - n) in
+      let none : got (g .left) ≡ got [] = sym (g .rest) ∙ ap (readTokens (length before - n)) (subst (NextIs text i) e h) ∙ none-left (length before - n) in
       let empty : g .left ≡ [] = cc in
       let size : n ≡ length (take n now) = sym (length-take-le n now (omega (arith, g .same, g .holds))) in
       let written : take n now ++ g .left ≡ take n now = ap (λ (l : List ℤ). take n now ++ l) empty ∙ append-nil (take n now) in
-      let all : wordsOf (length before) (tokens text) ≡ got (take n now) = g .whole ∙ ap got written in
+      let all : readTokens (length before) (tokens text) ≡ got (take n now) = g .whole ∙ ap got written in
       sym (take-append-drop n now)
       ∙ ap (λ (l : List ℤ). take n now ++ l) (g .kept ∙ ap (λ (k : ℕ). drop k before) size)
       ∙ sym (ap (λ (x : Read (List ℤ)). roomAfter x before) all)
@@ -53,7 +53,7 @@ module _ {text : List ℕ} {before now : List ℤ} {i n : ℕ} (g : Filling text
   pub filling-never : {m : Mistake} {place : ℕ} → r ≡ Bad m place → ⊥
   filling-never {m} {place} e =
       let f : FoundMistake text i m place = subst (NextIs text i) e h in
-      clash (sym (ap (wordsOf (length before - n)) (f .first) ∙ one-bad (length before - n) (f .token) (f .rest) m place (f .says)) ∙ g .rest)
+      clash (sym (ap (readTokens (length before - n)) (f .first) ∙ one-bad (length before - n) (f .token) (f .rest) m place (f .says)) ∙ g .rest)
 
   module _ {z : ℤ} {start end : ℕ} (e : r ≡ Found z start end) where
     pub filling-word : FoundWord text i z start end
@@ -62,7 +62,7 @@ module _ {text : List ℕ} {before now : List ℤ} {i n : ℕ} (g : Filling text
     one : Took (length before - n) (tokensAt text end) z (g .left)
     one =
         let f = filling-word in
-        took (length before - n) (f .token) (tokensAt text end) z (g .left) (f .says) (sym (ap (wordsOf (length before - n)) (f .first)) ∙ g .rest)
+        took (length before - n) (f .token) (tokensAt text end) z (g .left) (f .says) (sym (ap (readTokens (length before - n)) (f .first)) ∙ g .rest)
 
     pub filling-room : n < length now
     filling-room = omega (arith, one .some, g .same)
@@ -79,7 +79,7 @@ module _ {text : List ℕ} {before now : List ℤ} {i n : ℕ} (g : Filling text
         record {
           inside = filling-word .inside;
           left = one .rest;
-          rest = ap (λ (k : ℕ). wordsOf k (tokensAt text end)) k ∙ one .read;
+          rest = ap (λ (k : ℕ). readTokens k (tokensAt text end)) k ∙ one .read;
           whole = g .whole ∙ ap got (sym words);
           holds = omega (arith, one .some);
           kept = drop-set-lt (n + 1) now n z′ (omega arith) ∙ sym (drop-drop 1 n now) ∙ ap (drop 1) (g .kept) ∙ drop-drop 1 n before;

@@ -13,8 +13,8 @@ use lib.Seq.{take-all}
 use lib.IntN.{ℤ}
 use lib.Dec.{eqb, ltb}
 use borrow.Author.Tests.{eq-eqb, ne-eqb, lt-ltb, le-ltb}
-use Rattle.hall.proofs.Cases.{or-right}
-use Rattle.typed.specs.Text.{Read, refused, got, isDigit, digitsIn, isWrong, decimal, signed, inRange, isBad, judged, numberOf, valueOf, placed}
+use Rattle.lists.proofs.Cases.{or-right}
+use Rattle.typed.specs.Text.{Read, refused, got, isDigit, digitsIn, isWrong, decimal, signed, fitsWord, isBad, judged, numberOf, valueOf, placed}
 use Rattle.typed.specs.Steps.{fitted, Behind}
 use Rattle.typed.specs.declared.Mistake.the-variants.{WrongByte, BadNumber}
 use Rattle.typed.specs.declared.token.Signed.{Signed}
@@ -35,10 +35,10 @@ module _ (ds : List ℕ) where
     pub bad-many : 10 < length ds → isBad minus ds ≡ true
     bad-many h = rw (lt-ltb 10 (length ds) h)
 
-    pub bad-value : inRange (signed minus (decimal 0 ds)) ≡ false → isBad minus ds ≡ true
+    pub bad-value : fitsWord (signed minus (decimal 0 ds)) ≡ false → isBad minus ds ≡ true
     bad-value e = or-right (ltb 10 (length ds)) _ (ap not e)
 
-    pub good : length ds ≤ 10 → inRange (signed minus (decimal 0 ds)) ≡ true → isBad minus ds ≡ false
+    pub good : length ds ≤ 10 → fitsWord (signed minus (decimal 0 ds)) ≡ true → isBad minus ds ≡ false
     good h e = rw (le-ltb 10 (length ds) h, e)
 
     pub judged-by : (place : ℕ) {w b : Bool} → isWrong ds ≡ w → isBad minus ds ≡ b → numberOf minus place ds ≡ judged w b minus place ds
@@ -72,9 +72,9 @@ module _ {minus : Bool} {place first : ℕ} {ds : List ℕ} (p : Behind minus pl
 
     pub says-value : {s : Signed} {n : ℕ} → length ds ≤ 10 → n ≡ decimal 0 ds → s ≡ fitted (signed minus n)
         → sayingOf place s ≡ numberOf minus place ds
-    says-value few e g = ap (sayingOf place) (g ∙ ap (λ (n : ℕ). fitted (signed minus n)) e) ∙ go (inRange (signed minus (decimal 0 ds))) refl
+    says-value few e g = ap (sayingOf place) (g ∙ ap (λ (n : ℕ). fitted (signed minus n)) e) ∙ go (fitsWord (signed minus (decimal 0 ds))) refl
       where
-        go : (b : Bool) → inRange (signed minus (decimal 0 ds)) ≡ b
+        go : (b : Bool) → fitsWord (signed minus (decimal 0 ds)) ≡ b
             → sayingOf place (cond b (Fits (signed minus (decimal 0 ds))) Beyond) ≡ numberOf minus place ds
         go true u = sym (judged-by ds minus place right-here (good ds minus few u))
         go false u = sym (judged-by ds minus place right-here (bad-value ds minus u))

@@ -14,11 +14,11 @@ use lib.ListN.{length, drop, length-append}
 use lib.IntN.{ℤ, pos, negsuc, negℤ}
 use lib.Dec.{ltb, lit<}
 use borrow.Author.Tests.{ltb-true, ltb-false, le-leb}
-use Rattle.hall.specs.Ranges.{Each}
-use Rattle.hall.proofs.Each.{each-append}
+use Rattle.lists.specs.Lists.{Each}
+use Rattle.lists.proofs.Each.{each-append}
 use Rattle.typed.specs.Text.{Read, got, isSeparator, isDigit, decimal, readText}
-use Rattle.typed.specs.Answer.{answered, numbersOf, roomAfter, Reads}
-use Rattle.typed.specs.Allowed.{Passing, InRange, Allowed, nothing, word, Spells, ended, last}
+use Rattle.typed.specs.Answer.{readingOf, numbersOf, roomAfter, Reads}
+use Rattle.typed.specs.Allowed.{Passing, WordSized, Allowed, nothing, word, Spells, ended, last}
 use Rattle.typed.specs.Printing.{digitsBy, digitsOf, printedWord, printed}
 use Rattle.typed.specs.declared.Reading.{Reading}
 use Rattle.typed.specs.declared.Reading.the-variants.{Words}
@@ -85,7 +85,7 @@ digits-few (suc k) n j h = go (ltb n 10) refl j h (λ i. digits-few k (n / 10) i
         omega (arith, length-append (digitsBy k (n / 10)) ((48 + n % 10) ∷ []))
 
 -- ── a word ──
-word-allowed : (z : ℤ) → InRange z → Allowed (printedWord z) z
+word-allowed : (z : ℤ) → WordSized z → Allowed (printedWord z) z
 word-allowed (pos n) h = record {
   minus = false;
   digits = digitsOf n;
@@ -122,22 +122,22 @@ spells-word {token} {z = z} b a e (last {token = end} r l q) =
     l
     (ap (λ (l : List ℤ). z ∷ l) q)
 
-pub printed-spells : (words : List ℤ) → Each InRange words → Spells (printed words) words
+pub printed-spells : (words : List ℤ) → Each WordSized words → Spells (printed words) words
 unfolding printed
 printed-spells [] h = ended nothing
 printed-spells (z ∷ []) h = last (record { before = []; closed = nothing; whole = refl; size = refl }) (word-allowed z (h .0)) refl
 printed-spells (z ∷ y ∷ words) h = spells-word 32 (word-allowed z (h .0)) refl (printed-spells (y ∷ words) (h .1))
 
-pub printed-reads : (words : List ℤ) (room : ℕ) → Each InRange words → length (printed words) ≤ 60000 → length words ≤ room
+pub printed-reads : (words : List ℤ) (room : ℕ) → Each WordSized words → length (printed words) ≤ 60000 → length words ≤ room
     → readText (printed words) room ≡ got words
 printed-reads words room h short fits =
     verdict-only (printed words) room (got words) (record { short = short; fits = fits; spells = printed-spells words h })
 
 -- so `read` answers their number and puts them at the front of the room
-pub printed-back : (words before : List ℤ) {r : Reading} {after : List ℤ} → Each InRange words → length (printed words) ≤ 60000
+pub printed-back : (words before : List ℤ) {r : Reading} {after : List ℤ} → Each WordSized words → length (printed words) ≤ 60000
     → length words ≤ length before
     → Reads (printed words) before r after → (r ≡ Words (length words)) × (after ≡ words ++ drop (length words) before)
 printed-back words before {r} h short fits x =
     let e = printed-reads words (length before) h short fits in
-    let told = x .says ∙ ap (λ (y : Read (List ℤ)). numbersOf (answered y)) e in
+    let told = x .says ∙ ap (λ (y : Read (List ℤ)). numbersOf (readingOf y)) e in
     (numbers-injective r (Words (length words)) told, x .room ∙ ap (λ (y : Read (List ℤ)). roomAfter y before) e)

@@ -10,7 +10,7 @@ use Prim.Native.Nat.{ℕ, suc, _+_, _-_, _≤_}
 use native.Mathlib.Omega.{arith}
 use lib.ListN.{length, length-append}
 use lib.IntN.{ℤ}
-use Rattle.typed.specs.Text.{Read, refused, got, then, isSeparator, inToken, isDigit, Token, tokensFrom, tokens, wordsOf, placed}
+use Rattle.typed.specs.Text.{Read, refused, got, then, isSeparator, inToken, isDigit, Token, tokensFrom, tokens, readTokens, placed}
 use Rattle.typed.specs.Allowed.{Passing, sign, Allowed, Closed, nothing, separator, word, Reached}
 use Rattle.typed.proofs.Digits.{digit-in-token, minus-in-token}
 use Rattle.typed.proofs.Taking.{got-one}
@@ -62,36 +62,36 @@ unfolding tokensFrom
 skip-one i b bs e = rw e
 
 closed-reads : {before : List ℕ} {words : List ℤ} → Closed before words → (i : ℕ) (rest : List ℕ) (room : ℕ) → length words ≤ room
-    → wordsOf room (tokensFrom true i (before ++ rest)) ≡ behind words (wordsOf (room - length words) (tokensFrom true (i + length before) rest))
+    → readTokens room (tokensFrom true i (before ++ rest)) ≡ behind words (readTokens (room - length words) (tokensFrom true (i + length before) rest))
 closed-reads nothing i rest room h =
-    behind-nothing (wordsOf room (tokensFrom true i rest))
-    ∙ ap (λ (k : ℕ). behind [] (wordsOf k (tokensFrom true i rest))) (omega arith)
-    ∙ ap (λ (j : ℕ). behind [] (wordsOf (room - 0) (tokensFrom true j rest))) (omega arith)
+    behind-nothing (readTokens room (tokensFrom true i rest))
+    ∙ ap (λ (k : ℕ). behind [] (readTokens k (tokensFrom true i rest))) (omega arith)
+    ∙ ap (λ (j : ℕ). behind [] (readTokens (room - 0) (tokensFrom true j rest))) (omega arith)
 closed-reads (separator {b} {bs} {words} e c) i rest room h =
-    ap (wordsOf room) (skip-one i b (bs ++ rest) e)
+    ap (readTokens room) (skip-one i b (bs ++ rest) e)
     ∙ closed-reads c (suc i) rest room h
-    ∙ ap (λ (j : ℕ). behind words (wordsOf (room - length words) (tokensFrom true j rest))) (omega arith)
+    ∙ ap (λ (j : ℕ). behind words (readTokens (room - length words) (tokensFrom true j rest))) (omega arith)
 closed-reads (word {token} {z} b {bs} {words} a e c) i rest room h =
     let t : Token = placed i token in
     let ts = tokensFrom true (suc (i + length token)) (bs ++ rest) in
     let k : room - 1 - length words ≡ room - suc (length words) = omega arith in
     let j : suc (i + length token) + length bs ≡ i + length (token ++ (b ∷ bs)) = omega (arith, length-append token (b ∷ bs)) in
-    ap (wordsOf room)
+    ap (readTokens room)
     (ap (tokensFrom true i) (append-assoc token (b ∷ bs) rest)
     ∙ run-token i token (b ∷ (bs ++ rest)) (allowed-some a) (allowed-bytes a) e
     ∙ ap (λ (l : List Token). t ∷ l) (skip-one (i + length token) b (bs ++ rest) e))
     ∙ got-one t ts z (says-only i token (got z) a) room (omega arith)
     ∙ ap (λ (x : Read (List ℤ)). then x λ zs. got (z ∷ zs)) (closed-reads c (suc (i + length token)) rest (room - 1) (omega arith))
-    ∙ behind-word z words (wordsOf (room - 1 - length words) (tokensFrom true (suc (i + length token) + length bs) rest))
-    ∙ ap (λ (k : ℕ). behind (z ∷ words) (wordsOf k (tokensFrom true (suc (i + length token) + length bs) rest))) k
-    ∙ ap (λ (j : ℕ). behind (z ∷ words) (wordsOf (room - suc (length words)) (tokensFrom true j rest))) j
+    ∙ behind-word z words (readTokens (room - 1 - length words) (tokensFrom true (suc (i + length token) + length bs) rest))
+    ∙ ap (λ (k : ℕ). behind (z ∷ words) (readTokens k (tokensFrom true (suc (i + length token) + length bs) rest))) k
+    ∙ ap (λ (j : ℕ). behind (z ∷ words) (readTokens (room - suc (length words)) (tokensFrom true j rest))) j
 
 pub reached-reads : {text : List ℕ} {words : List ℤ} {place : ℕ} {rest : List ℕ} → Reached text words place rest → (room : ℕ) → length words ≤ room
-    → wordsOf room (tokens text) ≡ behind words (wordsOf (room - length words) (tokensFrom true place rest))
+    → readTokens room (tokens text) ≡ behind words (readTokens (room - length words) (tokensFrom true place rest))
 reached-reads {words = words} {rest = rest} r room h =
-    ap (λ (l : List ℕ). wordsOf room (tokens l)) (r .whole)
+    ap (λ (l : List ℕ). readTokens room (tokens l)) (r .whole)
     ∙ closed-reads (r .closed) 0 rest room h
-    ∙ ap (λ (j : ℕ). behind words (wordsOf (room - length words) (tokensFrom true j rest))) (omega (arith, r .size))
+    ∙ ap (λ (j : ℕ). behind words (readTokens (room - length words) (tokensFrom true j rest))) (omega (arith, r .size))
 
 -- ── one step further ──
 pub reached-separator : {text : List ℕ} {words : List ℤ} {place b : ℕ} {bs : List ℕ} → isSeparator b ≡ true

@@ -12,20 +12,20 @@ use lib.Seq.{drop-append-seam}
 use borrow.Author.Tests.{not-true, not-false}
 use Rattle.typed.specs.Text.{isSeparator, inToken, front, placed, tokensFrom}
 use Rattle.typed.specs.Allowed.{Passing}
-use Rattle.typed.specs.Reasons.{Ends}
+use Rattle.typed.specs.Reasons.{TokenEnds}
 use Rattle.typed.proofs.Fronts.{Fails, front-splits, front-each, front-fails, each-front}
 use Rattle.typed.proofs.Splitting.{first-token}
 
 -- a run of bytes of a token ends where the next byte is none
-fails-ends : (after : List ℕ) → Fails inToken after → Ends after
+fails-ends : (after : List ℕ) → Fails inToken after → TokenEnds after
 fails-ends [] f = tt
 fails-ends (b ∷ bs) f = not-false (isSeparator b) f
 
-ends-fails : (after : List ℕ) → Ends after → Fails inToken after
+ends-fails : (after : List ℕ) → TokenEnds after → Fails inToken after
 ends-fails [] e = tt
 ends-fails (b ∷ bs) e = ap not e
 
-pub run-token : (i : ℕ) (token after : List ℕ) → 1 ≤ length token → Passing inToken token → Ends after
+pub run-token : (i : ℕ) (token after : List ℕ) → 1 ≤ length token → Passing inToken token → TokenEnds after
     → tokensFrom true i (token ++ after) ≡ placed i token ∷ tokensFrom true (i + length token) after
 run-token i [] after some bytes ends = absurd (omega arith)
 run-token i (b ∷ bs) after some bytes ends =
@@ -41,7 +41,7 @@ pub record Run (l : List ℕ) : Type 0 where
   pub whole : l ≡ token ++ after
   pub some : 1 ≤ length token
   pub bytes : Passing inToken token
-  pub ends : Ends after
+  pub ends : TokenEnds after
 
 pub token-run : (b : ℕ) (bs : List ℕ) → isSeparator b ≡ false → Run (b ∷ bs)
 unfolding front

@@ -14,9 +14,9 @@ use lib.Seq.{take-length}
 use lib.IntN.{ℤ, pos, negsuc}
 use lib.Dec.{ltb, eqb}
 use borrow.Author.Tests.{ltb-true, ltb-false, leb-true, le-leb, eqb-true, eqb-false, ne-eqb, not-false}
-use Rattle.hall.proofs.Cases.{fails, or-false}
-use Rattle.typed.specs.Text.{Read, refused, got, isDigit, front, hasMinus, behindMinus, digitsIn, isWrong, decimal, signed, inRange, isBad, judged, numberOf, valueOf, placed}
-use Rattle.typed.specs.Allowed.{Passing, sign, InRange, Allowed}
+use Rattle.lists.proofs.Cases.{fails, or-false}
+use Rattle.typed.specs.Text.{Read, refused, got, isDigit, front, hasMinus, behindMinus, digitsIn, isWrong, decimal, signed, fitsWord, isBad, judged, numberOf, valueOf, placed}
+use Rattle.typed.specs.Allowed.{Passing, sign, WordSized, Allowed}
 use Rattle.typed.specs.Reasons.{Stops, Wrong, Bad}
 use Rattle.typed.specs.declared.Mistake.the-variants.{WrongByte, BadNumber, TooLong, NoRoom}
 use Rattle.typed.proofs.Digits.{digit-range}
@@ -46,16 +46,16 @@ sign-length true = refl
 sign-length false = refl
 
 -- ── ranges ──
-range-true : (z : ℤ) → inRange z ≡ true → InRange z
+range-true : (z : ℤ) → fitsWord z ≡ true → WordSized z
 range-true (pos n) e = leb-true n 2147483647 e
 range-true (negsuc n) e = leb-true n 2147483647 e
 
-true-range : (z : ℤ) → InRange z → inRange z ≡ true
+true-range : (z : ℤ) → WordSized z → fitsWord z ≡ true
 true-range (pos n) h = le-leb n 2147483647 h
 true-range (negsuc n) h = le-leb n 2147483647 h
 
-out-of-range : (z : ℤ) → (InRange z → ⊥) → inRange z ≡ false
-out-of-range z h = fails (λ (e : inRange z ≡ true). h (range-true z e))
+out-of-range : (z : ℤ) → (WordSized z → ⊥) → fitsWord z ≡ false
+out-of-range z h = fails (λ (e : fitsWord z ≡ true). h (range-true z e))
 
 -- ── 21 and 22 as facts ──
 or-true : (a b : Bool) → (a || b) ≡ true → (a ≡ true) ⊎ (b ≡ true)
@@ -98,18 +98,18 @@ right-all ds e =
     (omega (arith, some), subst (Passing isDigit) (sym is) (front-each isDigit ds))
 
 module _ (minus : Bool) (ds : List ℕ) where
-  bad-why : isBad minus ds ≡ true → (10 < length ds) ⊎ (InRange (signed minus (decimal 0 ds)) → ⊥)
-  bad-why e = go (or-true (ltb 10 (length ds)) (not (inRange (signed minus (decimal 0 ds)))) e)
+  bad-why : isBad minus ds ≡ true → (10 < length ds) ⊎ (WordSized (signed minus (decimal 0 ds)) → ⊥)
+  bad-why e = go (or-true (ltb 10 (length ds)) (not (fitsWord (signed minus (decimal 0 ds)))) e)
     where
-      go : (ltb 10 (length ds) ≡ true) ⊎ (not (inRange (signed minus (decimal 0 ds))) ≡ true)
-          → (10 < length ds) ⊎ (InRange (signed minus (decimal 0 ds)) → ⊥)
+      go : (ltb 10 (length ds) ≡ true) ⊎ (not (fitsWord (signed minus (decimal 0 ds))) ≡ true)
+          → (10 < length ds) ⊎ (WordSized (signed minus (decimal 0 ds)) → ⊥)
       go (inl u) = inl (ltb-true 10 (length ds) u)
       go (inr u) = inr (λ r. false≢true (sym (ap not (true-range (signed minus (decimal 0 ds)) r)) ∙ u))
 
-  good-why : isBad minus ds ≡ false → (length ds ≤ 10) × InRange (signed minus (decimal 0 ds))
+  good-why : isBad minus ds ≡ false → (length ds ≤ 10) × WordSized (signed minus (decimal 0 ds))
   good-why e =
-      let p = or-false (ltb 10 (length ds)) (not (inRange (signed minus (decimal 0 ds)))) e in
-      (ltb-false 10 (length ds) (p .0), range-true (signed minus (decimal 0 ds)) (not-false (inRange (signed minus (decimal 0 ds))) (p .1)))
+      let p = or-false (ltb 10 (length ds)) (not (fitsWord (signed minus (decimal 0 ds)))) e in
+      (ltb-false 10 (length ds) (p .0), range-true (signed minus (decimal 0 ds)) (not-false (fitsWord (signed minus (decimal 0 ds))) (p .1)))
 
 -- ── what a token says ──
 -- the form of a token that says this at a place
@@ -195,12 +195,12 @@ module _ (place : ℕ) (token : List ℕ) where
       judged-digits (b .minus) (b .digits) (b .spelled) (b .each) (b .some) (why (b .bad))
       ∙ ap (refused BadNumber) (sym e)
     where
-      why : (10 < length (b .digits)) ⊎ (InRange (signed (b .minus) (decimal 0 (b .digits))) → ⊥) → isBad (b .minus) (b .digits) ≡ true
+      why : (10 < length (b .digits)) ⊎ (WordSized (signed (b .minus) (decimal 0 (b .digits))) → ⊥) → isBad (b .minus) (b .digits) ≡ true
       why (inl h) = bad-many (b .digits) (b .minus) h
       why (inr h) = bad-value (b .digits) (b .minus) (out-of-range (signed (b .minus) (decimal 0 (b .digits))) h)
   says-only (refused TooLong i) s = absurd s
   says-only (refused NoRoom i) s = absurd s
   says-only (got z) a =
-      let range = true-range (signed (a .minus) (decimal 0 (a .digits))) (subst InRange (a .value) (a .range)) in
+      let range = true-range (signed (a .minus) (decimal 0 (a .digits))) (subst WordSized (a .value) (a .range)) in
       judged-digits (a .minus) (a .digits) (a .spelled) (a .each) (a .some) (good (a .digits) (a .minus) (a .few) range)
       ∙ ap got (sym (a .value))

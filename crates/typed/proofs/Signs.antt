@@ -11,7 +11,7 @@ use lib.IntN.{ℤ, pos, negsuc, negℤ, _-ℤ_}
 use mir.Syntax.{w32}
 use mir.Val.{SFits, toZ, ofZ}
 use mir.Facts.{toZ-ofZ, toZ-pos}
-use Rattle.typed.specs.Text.{signed, inRange}
+use Rattle.typed.specs.Text.{signed, fitsWord}
 use Rattle.typed.specs.Steps.{fitted}
 use Rattle.typed.specs.declared.token.Signed.the-variants.{Fits, Beyond}
 
@@ -26,10 +26,10 @@ opposite (suc k) h = ap negsuc (omega arith)
 pub zero-is : {minus : Bool} {n : ℕ} → minus ≡ true → n ≡ 0 → Fits (pos 0) ≡ fitted (signed minus n)
 zero-is p q = rw (p, q)
 
-in-range : (z : ℤ) → inRange z ≡ true → Fits z ≡ fitted z
+in-range : (z : ℤ) → fitsWord z ≡ true → Fits z ≡ fitted z
 in-range z e = rw e
 
-out-of-range : (z : ℤ) → inRange z ≡ false → Beyond ≡ fitted z
+out-of-range : (z : ℤ) → fitsWord z ≡ false → Beyond ≡ fitted z
 out-of-range z e = rw e
 
 module _ {minus : Bool} {n : ℕ} (m : minus ≡ true) (h : n ≡ 0 → ⊥) where

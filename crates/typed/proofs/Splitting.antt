@@ -12,7 +12,7 @@ use lib.ListN.{length, getD, take, drop, length-drop, drop-of-length-le}
 use lib.Seq.{length-take-le, drop-drop}
 use lib.IntN.{ℤ}
 use Rattle.typed.specs.Text.{got, isSeparator, inToken, front, Token, tokensFrom, valueOf, placed}
-use Rattle.typed.specs.Steps.{Passes, asRead, tokensAt, FoundWord, FoundMistake}
+use Rattle.typed.specs.Steps.{Passes, saidAs, tokensAt, FoundWord, FoundMistake}
 use Rattle.typed.specs.declared.Mistake.{Mistake}
 use Rattle.typed.specs.declared.token.Said.{Said}
 use Rattle.typed.specs.declared.token.Said.the-variants.{Word, Mistaken}
@@ -109,13 +109,13 @@ token-length {text} {from} {start} {end} t = length-take-le (end - start) (drop 
 
 -- ── what the token says ──
 module _ {text : List ℕ} {from start end : ℕ} (t : NextToken text from start end) {r : Said}
-    (e : asRead r ≡ valueOf (placed start (take (end - start) (drop start text)))) where
+    (e : saidAs r ≡ valueOf (placed start (take (end - start) (drop start text)))) where
   -- the code returns what the machine reads back from the word's bits
   pub next-found : {z z′ : ℤ} → z′ ≡ z → r ≡ Word z → FoundWord text from z′ start end
   next-found {z} {z′} i q = record {
     token = placed start (take (end - start) (drop start text));
     first = t .first;
-    says = sym e ∙ ap asRead q ∙ ap got (sym i);
+    says = sym e ∙ ap saidAs q ∙ ap got (sym i);
     place = refl;
     on = omega (arith, t .before, t .some);
     inside = t .inside;
@@ -126,5 +126,5 @@ module _ {text : List ℕ} {from start end : ℕ} (t : NextToken text from start
     token = placed start (take (end - start) (drop start text));
     rest = tokensAt text end;
     first = t .first;
-    says = sym e ∙ ap asRead q;
+    says = sym e ∙ ap saidAs q;
   }

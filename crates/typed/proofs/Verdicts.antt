@@ -13,9 +13,9 @@ use lib.ListN.{length, length-append}
 use lib.IntN.{ℤ}
 use lib.Dec.{ltb}
 use borrow.Author.Tests.{ltb-true, ltb-false}
-use Rattle.typed.specs.Text.{Read, refused, got, then, isSeparator, Token, tokensFrom, valueOf, wordsOf, readText, placed}
+use Rattle.typed.specs.Text.{Read, refused, got, then, isSeparator, Token, tokensFrom, valueOf, readTokens, readText, placed}
 use Rattle.typed.specs.Allowed.{Allowed, Closed, nothing, Reached, Spells, ended, last, Accepted}
-use Rattle.typed.specs.Reasons.{Ends, TokenAt, Reason}
+use Rattle.typed.specs.Reasons.{TokenEnds, TokenAt, Reason}
 use Rattle.typed.specs.declared.Mistake.{Mistake}
 use Rattle.typed.specs.declared.Mistake.the-variants.{WrongByte, BadNumber, TooLong, NoRoom}
 use Rattle.typed.proofs.Taking.{none-left, got-one, no-room, one-bad}
@@ -30,7 +30,7 @@ Verdict text room (got words) = Accepted text room words
 
 -- the verdict on what is read of some tokens, behind some words; and from a place on
 abbrev OfTokens : List ℕ → ℕ → List ℤ → List Token → Type 0
-OfTokens text room words ts = Verdict text room (behind words (wordsOf (room - length words) ts))
+OfTokens text room words ts = Verdict text room (behind words (readTokens (room - length words) ts))
 
 abbrev From : List ℕ → ℕ → List ℤ → ℕ → List ℕ → Type 0
 From text room words place rest = OfTokens text room words (tokensFrom true place rest)
@@ -42,7 +42,7 @@ Shorter text room most =
     → From text room words place rest
 
 -- no token is left
-no-tokens : (room i : ℕ) → wordsOf room (tokensFrom true i []) ≡ got []
+no-tokens : (room i : ℕ) → readTokens room (tokensFrom true i []) ≡ got []
 unfolding tokensFrom
 no-tokens room i = none-left room
 
@@ -93,8 +93,8 @@ module _ (text : List ℕ) (room : ℕ) (short : length text ≤ 60000) where
               let k : room - length (words ++ (z ∷ [])) ≡ room - length words - 1 = omega (arith, length-append words (z ∷ [])) in
               let one = got-one (placed place token) ts z e (room - length words) (omega arith) in
               subst (Verdict text room)
-              (ap (λ (k : ℕ). behind (words ++ (z ∷ [])) (wordsOf k ts)) k
-              ∙ sym (ap (behind words) one ∙ word-behind words z (wordsOf (room - length words - 1) ts)))
+              (ap (λ (k : ℕ). behind (words ++ (z ∷ [])) (readTokens k ts)) k
+              ∙ sym (ap (behind words) one ∙ word-behind words z (readTokens (room - length words - 1) ts)))
               (next z a l)
           room-for z e a false u =
               let l = ltb-false (length words) room u in
@@ -102,7 +102,7 @@ module _ (text : List ℕ) (room : ℕ) (short : length text ≤ 60000) where
               let t : Token = placed place token in
               let k : room - length words ≡ 0 = omega arith in
               subst (Verdict text room)
-              (sym (ap (behind words) (ap (λ (k : ℕ). wordsOf k (t ∷ ts)) k ∙ no-room t ts z e)))
+              (sym (ap (behind words) (ap (λ (k : ℕ). readTokens k (t ∷ ts)) k ∙ no-room t ts z e)))
               (record { short = short; words = words; full = omega arith; token = token; here = here; z = z; allowed = a })
 
           go : (x : Read ℤ) → valueOf (placed place token) ≡ x → Says place token x
@@ -114,7 +114,7 @@ module _ (text : List ℕ) (room : ℕ) (short : length text ≤ 60000) where
 
   -- behind a token that is a word the text ends, or the separator and what stands behind it have their verdict
   module _ (most : ℕ) (shorter : Shorter text room most) {words : List ℤ} {place : ℕ} where
-    from-word : (token after : List ℕ) → length (token ++ after) ≤ most → Ends after → Reached text words place (token ++ after)
+    from-word : (token after : List ℕ) → length (token ++ after) ≤ most → TokenEnds after → Reached text words place (token ++ after)
         → (z : ℤ) → Allowed token z → length words < room → From text room (words ++ (z ∷ [])) (place + length token) after
     from-word token [] n ends r z a f =
         let here = subst (Reached text words place) (append-nil token) r in
@@ -162,11 +162,11 @@ module _ (text : List ℕ) (room : ℕ) where
   -- the first token that is no word, or has no room, decides
   decides : {words : List ℤ} {place : ℕ} {token : List ℕ} → length text ≤ 60000 → length words ≤ room → TokenAt text words place token
       → {m : Mistake} {i : ℕ}
-      → ((ts : List Token) → wordsOf (room - length words) (placed place token ∷ ts) ≡ refused m i) → readText text room ≡ refused m i
+      → ((ts : List Token) → readTokens (room - length words) (placed place token ∷ ts) ≡ refused m i) → readText text room ≡ refused m i
   decides {words} {place} {token} short fits here says =
       sym (within text room short)
       ∙ reached-reads (here .reached) room fits
-      ∙ ap (λ (ts : List Token). behind words (wordsOf (room - length words) ts))
+      ∙ ap (λ (ts : List Token). behind words (readTokens (room - length words) ts))
       (run-token place token (here .after) (here .some) (here .bytes) (here .ends))
       ∙ ap (behind words) (says (tokensFrom true (place + length token) (here .after)))
 
@@ -182,8 +182,8 @@ module _ (text : List ℕ) (room : ℕ) where
       let ts = tokensFrom true (place + length token) [] in
       sym (within text room short)
       ∙ reached-reads r room (omega arith)
-      ∙ ap (λ (l : List ℕ). behind others (wordsOf (room - length others) (tokensFrom true place l))) (sym (append-nil token))
-      ∙ ap (λ (ts : List Token). behind others (wordsOf (room - length others) ts)) (run-token place token [] (allowed-some a) (allowed-bytes a) tt)
+      ∙ ap (λ (l : List ℕ). behind others (readTokens (room - length others) (tokensFrom true place l))) (sym (append-nil token))
+      ∙ ap (λ (ts : List Token). behind others (readTokens (room - length others) ts)) (run-token place token [] (allowed-some a) (allowed-bytes a) tt)
       ∙ ap (behind others) (got-one t ts z (says-only place token (got z) a) (room - length others) (omega arith))
       ∙ ap (λ (x : Read (List ℤ)). behind others (then x λ zs. got (z ∷ zs))) (no-tokens (room - length others - 1) (place + length token))
       ∙ ap got (sym e)
@@ -202,7 +202,7 @@ module _ (text : List ℕ) (room : ℕ) where
   verdict-only (refused NoRoom i) v =
       let k : room - length (v .words) ≡ 0 = omega (arith, v .full) in
       decides (v .short) (omega (arith, v .full)) (v .here) λ ts.
-      ap (λ (k : ℕ). wordsOf k (placed i (v .token) ∷ ts)) k ∙ no-room (placed i (v .token)) ts (v .z) (says-only i (v .token) (got (v .z)) (v .allowed))
+      ap (λ (k : ℕ). readTokens k (placed i (v .token) ∷ ts)) k ∙ no-room (placed i (v .token)) ts (v .z) (says-only i (v .token) (got (v .z)) (v .allowed))
 
 -- "accepted exactly if": and then the words are the tokens' values
 pub accepted-exactly : (text : List ℕ) (room : ℕ) (words : List ℤ) → (readText text room ≡ got words) ↔ Accepted text room words

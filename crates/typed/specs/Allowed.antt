@@ -8,7 +8,7 @@ use mathlib.Core.List.{List, [], _∷_, _++_}
 use Prim.Native.Nat.{ℕ, _≤_}
 use lib.ListN.{length}
 use lib.IntN.{ℤ, pos, negsuc}
-use Rattle.hall.specs.Ranges.{Each}
+use Rattle.lists.specs.Lists.{Each}
 use Rattle.typed.specs.Text.{isSeparator, isDigit, decimal, signed}
 
 -- each byte of a list passes a test
@@ -21,9 +21,9 @@ sign true = 45 ∷ []
 sign false = []
 
 -- "-2,147,483,648 to 2,147,483,647"; `negsuc n` is -n - 1
-abbrev pub InRange : ℤ → Type 0
-InRange (pos n) = n ≤ 2147483647
-InRange (negsuc n) = n ≤ 2147483647
+abbrev pub WordSized : ℤ → Type 0
+WordSized (pos n) = n ≤ 2147483647
+WordSized (negsuc n) = n ≤ 2147483647
 
 -- "A token is an optional minus and 1 to 10 digits", with a value in the range
 pub record Allowed (token : List ℕ) (z : ℤ) : Type 0 where
@@ -34,7 +34,7 @@ pub record Allowed (token : List ℕ) (z : ℤ) : Type 0 where
   pub some : 1 ≤ length digits
   pub few : length digits ≤ 10
   pub value : z ≡ signed minus (decimal 0 digits)
-  pub range : InRange z
+  pub range : WordSized z
 
 -- separators, and allowed tokens each with a separator behind it, with the tokens' values
 pub data Closed : List ℕ → List ℤ → Type 0 where

@@ -8,17 +8,17 @@ use lib.ListN.{length, drop}
 use lib.IntN.{ℤ}
 use Rattle.typed.specs.declared.Reading.{Reading}
 use Rattle.typed.specs.declared.Reading.the-variants.{Words, Refused}
-use Rattle.typed.specs.Text.{codeOf, Read, refused, got, readText}
+use Rattle.typed.specs.Text.{mistakeCode, Read, refused, got, readText}
 
 -- "on success it returns w"; a refusal has its kind and its place
-abbrev pub answered : Read (List ℤ) → Reading
-answered (refused m place) = Refused m place
-answered (got words) = Words (length words)
+abbrev pub readingOf : Read (List ℤ) → Reading
+readingOf (refused m place) = Refused m place
+readingOf (got words) = Words (length words)
 
 -- "a definition that gives this paper's number and values for each of its cases": 0 and w, or the code and the place
 abbrev pub numbersOf : Reading → List ℕ
 numbersOf (Words w) = 0 ∷ w ∷ []
-numbersOf (Refused m place) = codeOf m ∷ place ∷ []
+numbersOf (Refused m place) = mistakeCode m ∷ place ∷ []
 
 -- "the first w words are the tokens' values, the rest is unchanged; on refusal all of it is unchanged"
 abbrev pub roomAfter : Read (List ℤ) → List ℤ → List ℤ
@@ -27,5 +27,5 @@ roomAfter (got words) room = words ++ drop (length words) room
 
 -- the contract of `read`: the text, the room before, the answer and the room afterwards
 pub record Reads (text : List ℕ) (before : List ℤ) (reading : Reading) (after : List ℤ) : Type 0 where
-  pub says : numbersOf reading ≡ numbersOf (answered (readText text (length before)))
+  pub says : numbersOf reading ≡ numbersOf (readingOf (readText text (length before)))
   pub room : after ≡ roomAfter (readText text (length before)) before

@@ -10,14 +10,14 @@ use Prim.Native.Nat.{ℕ, _+_, _≤_, _<_}
 use lib.ListN.{length}
 use lib.IntN.{ℤ}
 use Rattle.typed.specs.Text.{isSeparator, inToken, isDigit, hasMinus, decimal, signed}
-use Rattle.typed.specs.Allowed.{Passing, sign, InRange, Allowed, Reached}
+use Rattle.typed.specs.Allowed.{Passing, sign, WordSized, Allowed, Reached}
 use Rattle.typed.specs.declared.Mistake.{Mistake}
 use Rattle.typed.specs.declared.Mistake.the-variants.{WrongByte, BadNumber, TooLong, NoRoom}
 
 -- a token ends where the text does, or a separator stands
-abbrev pub Ends : List ℕ → Type 0
-Ends [] = Unit {0}
-Ends (b ∷ bs) = isSeparator b ≡ true
+abbrev pub TokenEnds : List ℕ → Type 0
+TokenEnds [] = Unit {0}
+TokenEnds (b ∷ bs) = isSeparator b ≡ true
 
 -- the token at a place of a text, a longest run of bytes other than separators, behind tokens that are words
 pub record TokenAt (text : List ℕ) (words : List ℤ) (place : ℕ) (token : List ℕ) : Type 0 where
@@ -25,7 +25,7 @@ pub record TokenAt (text : List ℕ) (words : List ℤ) (place : ℕ) (token : L
   pub reached : Reached text words place (token ++ after)
   pub some : 1 ≤ length token
   pub bytes : Passing inToken token
-  pub ends : Ends after
+  pub ends : TokenEnds after
 
 -- behind the digits stands another byte; or nothing stands there, and there is no digit
 abbrev pub Stops : (digits rest : List ℕ) → Type 0
@@ -51,7 +51,7 @@ pub record Bad (token : List ℕ) : Type 0 where
   pub spelled : token ≡ sign minus ++ digits
   pub each : Passing isDigit digits
   pub some : 1 ≤ length digits
-  pub bad : (10 < length digits) ⊎ (InRange (signed minus (decimal 0 digits)) → ⊥)
+  pub bad : (10 < length digits) ⊎ (WordSized (signed minus (decimal 0 digits)) → ⊥)
 
 -- 21: "the wrong byte, or where the digit should stand (the end of the text included)"
 pub record HasWrongByte (i : ℕ) (text : List ℕ) (room : ℕ) : Type 0 where

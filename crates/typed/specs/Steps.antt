@@ -8,7 +8,7 @@ use mathlib.Core.List.{List, [], _∷_}
 use Prim.Native.Nat.{ℕ, _+_, _≤_, _<_}
 use lib.ListN.{length, drop}
 use lib.IntN.{ℤ}
-use Rattle.typed.specs.Text.{Read, refused, got, inRange, front, Token, tokensFrom, tokens, valueOf, wordsOf}
+use Rattle.typed.specs.Text.{Read, refused, got, fitsWord, front, Token, tokensFrom, tokens, valueOf, readTokens}
 use Rattle.typed.specs.declared.Mistake.{Mistake}
 use Rattle.typed.specs.declared.token.Signed.{Signed}
 use Rattle.typed.specs.declared.token.Signed.the-variants.{Fits, Beyond}
@@ -24,7 +24,7 @@ pub record Passes (test : ℕ → Bool) (text : List ℕ) (first last : ℕ) : T
 
 -- a value as a word, where it is in range
 abbrev pub fitted : ℤ → Signed
-fitted z = cond (inRange z) (Fits z) Beyond
+fitted z = cond (fitsWord z) (Fits z) Beyond
 
 -- what stands behind the optional minus of the token at a place begins at `first`
 pub record Behind (minus : Bool) (place first : ℕ) (digits : List ℕ) : Type 0 where
@@ -32,9 +32,9 @@ pub record Behind (minus : Bool) (place first : ℕ) (digits : List ℕ) : Type 
   pub short : first + length digits ≤ 60000
 
 -- what the token functions say, as a reading
-abbrev pub asRead : Said → Read ℤ
-asRead (Word z) = got z
-asRead (Mistaken m place) = refused m place
+abbrev pub saidAs : Said → Read ℤ
+saidAs (Word z) = got z
+saidAs (Mistaken m place) = refused m place
 
 -- the tokens from a place on, at which none is going on
 abbrev pub tokensAt : List ℕ → ℕ → List Token
@@ -64,4 +64,4 @@ NextIs text i (Bad m place) = FoundMistake text i m place
 pub record Taken (text : List ℕ) (room : ℕ) : Type 0 where
   pub short : length text ≤ 60000
   pub words : List ℤ
-  pub read : wordsOf room (tokens text) ≡ got words
+  pub read : readTokens room (tokens text) ≡ got words

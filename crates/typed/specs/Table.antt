@@ -8,22 +8,22 @@ use Prim.Native.Nat.{ℕ, zero, suc}
 use lib.ListN.{length, replicate}
 use lib.IntN.{ℤ, pos, negsuc}
 use Rattle.typed.specs.Text.{readText}
-use Rattle.typed.specs.Answer.{answered, numbersOf, roomAfter}
+use Rattle.typed.specs.Answer.{readingOf, numbersOf, roomAfter}
 
 -- the paper's numbers for the answer, and the room afterwards
-pub record Outcome : Type 0 where
+pub record Effect : Type 0 where
   pub told : List ℕ
   pub room : List ℤ
 
 pub record Row : Type 0 where
   pub text : List ℕ
   pub before : List ℤ
-  pub expected : Outcome
+  pub expected : Effect
 
 -- what the definitions say for a row
-unfoldable pub outcome : Row → Outcome
-outcome r = record {
-  told = numbersOf (answered (readText (r .text) (length (r .before))));
+unfoldable pub effect : Row → Effect
+effect r = record {
+  told = numbersOf (readingOf (readText (r .text) (length (r .before))));
   room = roomAfter (readText (r .text) (length (r .before))) (r .before);
 }
 

@@ -12,11 +12,11 @@ use Rattle.typed.specs.declared.Mistake.{Mistake}
 use Rattle.typed.specs.declared.Mistake.the-variants.{WrongByte, BadNumber, TooLong, NoRoom}
 
 -- "Code": the one place that turns a kind into its number
-abbrev pub codeOf : Mistake → ℕ
-codeOf WrongByte = 21
-codeOf BadNumber = 22
-codeOf TooLong = 23
-codeOf NoRoom = 24
+abbrev pub mistakeCode : Mistake → ℕ
+mistakeCode WrongByte = 21
+mistakeCode BadNumber = 22
+mistakeCode TooLong = 23
+mistakeCode NoRoom = 24
 
 -- what reading comes to: a mistake and its place, or a value. "Place (byte from 0)"
 pub data Read (A : Type 0) : Type 0 where
@@ -56,9 +56,9 @@ abbrev pub placed : ℕ → List ℕ → Token
 placed i bs = record { place = i; bytes = bs }
 
 -- a token in front of the others, where one begins
-abbrev pub begun : Bool → Token → List Token → List Token
-begun true t ts = t ∷ ts
-begun false t ts = ts
+abbrev pub ifFresh : Bool → Token → List Token → List Token
+ifFresh true t ts = t ∷ ts
+ifFresh false t ts = ts
 
 -- "Tokens are separated by one or more of the bytes 9, 10, 13 and 32, which may also stand at either end": a token is a longest
 -- run of other bytes. It begins at such a byte that is `fresh`: at the text's start, or behind a separator
@@ -67,7 +67,7 @@ tokensFrom fresh i [] = []
 tokensFrom fresh i (b ∷ bs) =
     cond (isSeparator b)
     (tokensFrom true (suc i) bs)
-    (begun fresh (placed i (b ∷ front inToken bs)) (tokensFrom false (suc i) bs))
+    (ifFresh fresh (placed i (b ∷ front inToken bs)) (tokensFrom false (suc i) bs))
 
 abbrev pub tokens : List ℕ → List Token
 tokens text = tokensFrom true 0 text
@@ -101,13 +101,13 @@ signed true n = negℤ (pos n)
 signed false n = pos n
 
 -- "-2,147,483,648 to 2,147,483,647"; `negsuc n` is -n - 1
-abbrev pub inRange : ℤ → Bool
-inRange (pos n) = leb n 2147483647
-inRange (negsuc n) = leb n 2147483647
+abbrev pub fitsWord : ℤ → Bool
+fitsWord (pos n) = leb n 2147483647
+fitsWord (negsuc n) = leb n 2147483647
 
 -- 22: "more than 10 digits, or a value outside -2,147,483,648 to 2,147,483,647"
 abbrev pub isBad : (minus : Bool) → List ℕ → Bool
-isBad minus ds = ltb 10 (length ds) || not (inRange (signed minus (decimal 0 ds)))
+isBad minus ds = ltb 10 (length ds) || not (fitsWord (signed minus (decimal 0 ds)))
 
 -- "for each token 21 over its whole length, then 22"
 -- 21: "the wrong byte, or where the digit should stand (the end of the text included)"; 22: "the token's first byte"
@@ -126,11 +126,11 @@ valueOf t = numberOf (hasMinus (t .bytes)) (t .place) (behindMinus (t .bytes))
 -- ── the whole ──
 -- "token by token, and for each token 21 .., then 22, then 24", for a room that still holds so many words
 -- 24: "more tokens than the room holds | first byte of the first token without room"
-unfoldable pub wordsOf : (room : ℕ) → List Token → Read (List ℤ)
-wordsOf room [] = got []
-wordsOf zero (t ∷ ts) = then (valueOf t) λ z. refused NoRoom (t .place)
-wordsOf (suc room) (t ∷ ts) = then (valueOf t) λ z. then (wordsOf room ts) λ zs. got (z ∷ zs)
+unfoldable pub readTokens : (room : ℕ) → List Token → Read (List ℤ)
+readTokens room [] = got []
+readTokens zero (t ∷ ts) = then (valueOf t) λ z. refused NoRoom (t .place)
+readTokens (suc room) (t ∷ ts) = then (valueOf t) λ z. then (readTokens room ts) λ zs. got (z ∷ zs)
 
 -- 23: "more than 60,000 bytes | 60,000". "Order: 23; then token by token"
 unfoldable pub readText : List ℕ → (room : ℕ) → Read (List ℤ)
-readText text room = cond (ltb 60000 (length text)) (refused TooLong 60000) (wordsOf room (tokens text))
+readText text room = cond (ltb 60000 (length text)) (refused TooLong 60000) (readTokens room (tokens text))

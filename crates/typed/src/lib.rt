@@ -3,7 +3,7 @@
 // The text is read twice: `scan` finds the first mistake or the number of words and writes nothing, `fill` writes. So the room
 // is unchanged on every refusal, and no copy of it is needed.
 ghost use mathlib.Core.Path.{_≡_};
-ghost use Rattle.typed.specs.Text.{codeOf};
+ghost use Rattle.typed.specs.Text.{mistakeCode};
 ghost use Rattle.typed.specs.Answer.{Reads};
 
 mod bytes;
@@ -29,7 +29,7 @@ pub enum Reading {
 
 // The paper's code of each kind of mistake.
 pub fn code_of(mistake: Mistake) -> u32
-    ensures { λ r. ⌜ r ≡ codeOf mistake ⌝ }
+    ensures { λ r. ⌜ r ≡ mistakeCode mistake ⌝ }
 {
     match mistake {
         Mistake::WrongByte => 21,

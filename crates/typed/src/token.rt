@@ -3,7 +3,7 @@ ghost use mathlib.Core.Path.{_≡_};
 ghost use Prim.Native.Nat.{_+_, _≤_, _<_};
 ghost use lib.ListN.{length};
 ghost use Rattle.typed.specs.Text.{digitsIn, decimal, signed, numberOf, valueOf, placed};
-ghost use Rattle.typed.specs.Steps.{fitted, Behind, asRead};
+ghost use Rattle.typed.specs.Steps.{fitted, Behind, saidAs};
 use crate::Mistake;
 use crate::bytes::digits_in;
 
@@ -59,7 +59,7 @@ fn signed_of(minus: bool, size: u64) -> Signed
 // What stands behind the optional minus of the token at `place`, from `first` on.
 fn number_of(digits: &[u8], minus: bool, place: usize, first: usize) -> Said
     requires { ⌜ Behind minus place first (now digits) ⌝ }
-    ensures { λ r. ⌜ asRead r ≡ numberOf minus place (now (digits .entry)) ⌝ }
+    ensures { λ r. ⌜ saidAs r ≡ numberOf minus place (now (digits .entry)) ⌝ }
 {
     let count = digits_in(digits);
     if count == 0 {
@@ -80,7 +80,7 @@ fn number_of(digits: &[u8], minus: bool, place: usize, first: usize) -> Said
 // The token at `place`, whole.
 pub(crate) fn said_by(token: &[u8], place: usize) -> Said
     requires { ⌜ (0 < length (now token)) × (place + length (now token) ≤ 60000) ⌝ }
-    ensures { λ r. ⌜ asRead r ≡ valueOf (placed place (now (token .entry))) ⌝ }
+    ensures { λ r. ⌜ saidAs r ≡ valueOf (placed place (now (token .entry))) ⌝ }
 {
     if token[0] == 45 {
         let one: usize = 1;

@@ -2,8 +2,8 @@
 ghost use mathlib.Core.Path.{_≡_};
 ghost use Prim.Native.Nat.{_≤_};
 ghost use lib.ListN.{length};
-ghost use Rattle.typed.specs.Text.{tokens, wordsOf};
-ghost use Rattle.typed.specs.Answer.{answered, roomAfter};
+ghost use Rattle.typed.specs.Text.{tokens, readTokens};
+ghost use Rattle.typed.specs.Answer.{readingOf, roomAfter};
 ghost use Rattle.typed.specs.Steps.{NextIs, Taken};
 use crate::Mistake;
 use crate::Reading;
@@ -38,7 +38,7 @@ fn next_word(text: &[u8], from: usize) -> Next
 // The first pass, for a room of so many words: it writes nothing.
 pub(crate) fn scan(text: &[u8], room: usize) -> Reading
     requires { ⌜ length (now text) ≤ 60000 ⌝ }
-    ensures { λ r. ⌜ r ≡ answered (wordsOf room (tokens (now (text .entry)))) ⌝ }
+    ensures { λ r. ⌜ r ≡ readingOf (readTokens room (tokens (now (text .entry)))) ⌝ }
 {
     let mut at: usize = 0;
     let mut count: usize = 0;
@@ -64,7 +64,7 @@ pub(crate) fn scan(text: &[u8], room: usize) -> Reading
 // The second pass, over a text in which the first found no mistake.
 pub(crate) fn fill(text: &[u8], room: &mut [i32])
     requires { ⌜ Taken (now text) (length (now room)) ⌝ }
-    ensures { λ _. ⌜ now (room .exit) ≡ roomAfter (wordsOf (length (now (room .entry))) (tokens (now (text .entry)))) (now (room .entry)) ⌝ }
+    ensures { λ _. ⌜ now (room .exit) ≡ roomAfter (readTokens (length (now (room .entry))) (tokens (now (text .entry)))) (now (room .entry)) ⌝ }
 {
     let mut at: usize = 0;
     let mut count: usize = 0;

@@ -5,14 +5,14 @@ use Rattle.search.proofs.Calls.{call-refused, call-few, call-solvable, 
 use Rattle.search.proofs.least_plan.Statement.{statement}
 use Rattle.search.proofs.least_plan.Tie as tie
 
-no-costs-requires : tie.Need-no-costs-requires
-no-costs-requires c κs = search needs
+costs-room-requires : tie.Need-costs-room-requires
+costs-room-requires c κs = search needs
 
-no-codes-requires : tie.Need-no-codes-requires
-no-codes-requires c κs = search needs
+codes-room-requires : tie.Need-codes-room-requires
+codes-room-requires c κs = search needs
 
-no-starts-requires : tie.Need-no-starts-requires
-no-starts-requires c κs = search needs
+starts-room-requires : tie.Need-starts-room-requires
+starts-room-requires c κs = search needs
 
 read-requires : tie.Need-read-requires
 read-requires c κs = search needs
@@ -36,7 +36,7 @@ solve-requires : tie.Need-solve-requires
 solve-requires c κs =
     let read = c .before .before .before .before .before .before .before .before in
     let blank = read .before .before .before .before in
-    search (call-solvable, read .read .ensures, blank .before .before .no-costs .ensures, blank .before .no-codes .ensures, blank .no-starts .ensures)
+    search (call-solvable, read .read .ensures, blank .before .before .costs-room .ensures, blank .before .codes-room .ensures, blank .starts-room .ensures)
 
 returns : tie.Need-returns
 returns c = search call-refused
@@ -50,15 +50,15 @@ returns-2 c =
     let told = solved .before .before .before .before .before .before .before in
     let read = told .before .before in
     let blank = read .before .before .before .before in
-    search (call-found, solved .solve .ensures, told .n .given .1, read .read .ensures, blank .before .before .no-costs .ensures, blank .before .no-codes .ensures, blank .no-starts .ensures)
+    search (call-found, solved .solve .ensures, told .n .given .1, read .read .ensures, blank .before .before .costs-room .ensures, blank .before .codes-room .ensures, blank .starts-room .ensures)
 
 pub least-plan-spec : {M : Type 1} → statement M
 least-plan-spec =
     tie.close
     (tie.spec
-    no-costs-requires
-    no-codes-requires
-    no-starts-requires
+    costs-room-requires
+    codes-room-requires
+    starts-room-requires
     read-requires
     enum-known-kind
     enum-known-n

@@ -2,7 +2,7 @@
 use Prim.Native.Nat.{_-_}
 use lib.ListN.{take, drop}
 use Rattle.hall.specs.Order.{heldFrom, heldEntries}
-use Rattle.reply.specs.Printed.{entriesOf}
+use Rattle.reply.specs.Printed.{printedEntries}
 use Rattle.reply.proofs.Putting.{Left, left-start, left-more, left-end}
 use Rattle.reply.proofs.Items.{devices-more, devices-room, devices-end}
 use borrow.Author.Needs.{needs}
@@ -12,7 +12,7 @@ use Rattle.reply.proofs.lines.put_devices.Tie as tie
 -- Invariant: putting the devices that are left leaves what putting all of them leaves; putting one takes it off the rest (`left-more`).
 abbrev Inv-loop : tie.InvT-loop
 Inv-loop plan at out₀ next₀ device₀ out next device =
-    Left (entriesOf (heldFrom device (drop device (take 200 plan)))) (entriesOf (heldEntries (take 200 plan))) at out₀ next out
+    Left (printedEntries (heldFrom device (drop device (take 200 plan)))) (printedEntries (heldEntries (take 200 plan))) at out₀ next out
 
 -- Measure: the devices left.
 abbrev μ-loop : tie.MeasureT-loop

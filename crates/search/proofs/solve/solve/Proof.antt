@@ -4,11 +4,11 @@ use Rattle.search.proofs.Solves.{ready}
 use Rattle.search.proofs.solve.solve.Statement.{statement}
 use Rattle.search.proofs.solve.solve.Tie as tie
 
-blank-requires : tie.Need-blank-requires
-blank-requires c κs = search needs
+plan-room-requires : tie.Need-plan-room-requires
+plan-room-requires c κs = search needs
 
-blank-requires-2 : tie.Need-blank-requires-2
-blank-requires-2 c κs = search needs
+plan-room-requires-2 : tie.Need-plan-room-requires-2
+plan-room-requires-2 c κs = search needs
 
 sub-run : tie.Need-sub-run
 sub-run c = search needs
@@ -31,7 +31,7 @@ part-best-end c = search needs
 run-requires : tie.Need-run-requires
 run-requires c κs =
     let made = c .before .before .before in
-    ready (made .before .before .before .before .pre) (made .before .blank .ensures) (made .blank2 .ensures)
+    ready (made .before .before .before .before .pre) (made .before .plan-room .ensures) (made .plan-room2 .ensures)
 
 same-length : tie.Need-same-length
 same-length c = search needs
@@ -43,8 +43,8 @@ pub solve-spec : {M : Type 1} → statement M
 solve-spec =
     tie.close
     (tie.spec
-    blank-requires
-    blank-requires-2
+    plan-room-requires
+    plan-room-requires-2
     sub-run
     part-plan-start
     part-plan-end

@@ -1,7 +1,7 @@
 -- THE CYCLE of `walk_plan` and `walk_entries` meets its contracts, by the laws of Steps.
 --
 -- The measure falls at every call: a child has one free device less, and a rule has fewer entries than the 33 that stand for a plan.
--- The loop over the entries keeps what is done of the rule's walk beside what is left of it (`Reached`). In order: the answers of
+-- The loop over the entries keeps what is done of the rule's walk beside what is left of it (`Partway`). In order: the answers of
 -- `walk_entries`, then of `walk_plan`; the places they go back to are named in Places. Assumes nothing.
 use Prim.Native.Nat.{ℕ, _/_}
 use mathlib.Core.Path.{ap, _∙_}

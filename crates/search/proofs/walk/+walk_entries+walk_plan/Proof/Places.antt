@@ -1,7 +1,7 @@
 -- The cycle of `walk_plan` and `walk_entries`: its measures, the claims that its calls are made under, and the places of `walk_entries`
 -- that the proof goes back to.
 --
--- The measure is made of the free devices and the entries left (`remaining` of Steps); the loop over the entries keeps `Reached` of
+-- The measure is made of the free devices and the entries left (`remaining` of Steps); the loop over the entries keeps `Partway` of
 -- Steps, and its measure is the number of entries left. In order: measures and invariant; the claims; the places, each with the way to
 -- the place before it; what is known at them (`named`, `is-loose`, `tried`). Assumes nothing.
 use Prim.Native.Nat.{ℕ, _<_, _/_}
@@ -14,7 +14,7 @@ use borrow.Fn.PlainCycle.{Measures, is, falls, and}
 use Rattle.hall.specs.Hall.{isFree}
 use Rattle.hall.specs.Walk.{walkFrom}
 use Rattle.sheet.specs.Coded.{entryOf, hallOf}
-use Rattle.search.proofs.Steps.{remaining, entry-named, Reached, Tried}
+use Rattle.search.proofs.Steps.{remaining, entry-named, Partway, Tried}
 use Rattle.search.proofs.walk.walk_entries.Reads as entries
 use Rattle.search.proofs.walk.walk_entries.Kinds as entries-kinds
 use Rattle.search.proofs.walk.+walk_entries+walk_plan.Lts-walk_entries as entries-lts
@@ -38,7 +38,7 @@ plan-measure κs a = remaining (a .1 .1 .1 .1 .0 .now) 33
 
 abbrev pub Inv : entries-lts.InvT-loop
 Inv costs codes starts m at₀ left₀ plan₀ best₀ state₀ cost held at left plan best state =
-    Reached costs codes starts m (walkFrom (hallOf costs codes starts m)) at₀ left₀ plan₀ best₀ state₀ cost held at left plan best state
+    Partway costs codes starts m (walkFrom (hallOf costs codes starts m)) at₀ left₀ plan₀ best₀ state₀ cost held at left plan best state
 
 abbrev pub μ : entries-lts.MeasureT-loop
 μ costs codes starts m at₀ left₀ plan₀ best₀ state₀ cost held at left plan best state = left

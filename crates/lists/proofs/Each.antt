@@ -2,7 +2,7 @@
 use mathlib.Core.List.{List, [], _∷_, _++_}
 use Prim.Native.Nat.{ℕ, zero, suc}
 use lib.ListN.{replicate}
-use Rattle.hall.specs.Ranges.{Each}
+use Rattle.lists.specs.Lists.{Each}
 
 module _ {A : Type 0} (P : A → Type 0) where
   pub each-append : (l m : List A) → Each P l → Each P m → Each P (l ++ m)

@@ -1,0 +1,29 @@
+-- Laws of `inFront`: what stands in front (`front-stands`), the rest of the room (`rest-stays`), its length (`room-as-long`); stores
+-- from the front of a room on that has place for them (`sets-in-front`), and one run of stores behind another (`sets-append`).
+-- Assumes nothing.
+use mathlib.Core.Path.{_≡_, _∙_, ap}
+use mathlib.Core.List.{List, [], _∷_, _++_}
+use Prim.Native.Nat.{ℕ, suc, _+_, _≤_}
+use native.Mathlib.Omega.{arith}
+use lib.ListN.{length, take, drop, set, length-append, length-drop}
+use lib.Seq.{sets, sets-eq, take-append-seam, drop-append-seam}
+use Rattle.lists.specs.Lists.{inFront}
+
+module _ {A : Type 0} where
+  pub front-stands : (front room : List A) → take (length front) (inFront front room) ≡ front
+  front-stands front room = take-append-seam front (drop (length front) room)
+
+  pub rest-stays : (front room : List A) → drop (length front) (inFront front room) ≡ drop (length front) room
+  rest-stays front room = drop-append-seam front (drop (length front) room)
+
+  pub room-as-long : (front room : List A) → length front ≤ length room → length (inFront front room) ≡ length room
+  room-as-long front room l = omega (arith, length-append front (drop (length front) room), length-drop (length front) room)
+
+  pub sets-in-front : (front room : List A) → length front ≤ length room → sets room 0 front ≡ inFront front room
+  sets-in-front front room l =
+      let z : 0 + length front ≡ length front = omega arith in
+      sets-eq front room 0 (omega arith) ∙ ap (λ (k : ℕ). front ++ drop k room) z
+
+  pub sets-append : (room : List A) (k : ℕ) (a b : List A) → sets room k (a ++ b) ≡ sets (sets room k a) (k + length a) b
+  sets-append room k [] b = ap (λ (i : ℕ). sets room i b) (omega arith)
+  sets-append room k (v ∷ a) b = sets-append (set room k v) (suc k) a b ∙ ap (λ (i : ℕ). sets (sets (set room k v) (suc k) a) i b) (omega arith)

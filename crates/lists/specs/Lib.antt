@@ -1,0 +1,3 @@
+-- What is said of lists everywhere, to be read in this order.
+pub mod Lists
+pub mod Bytes
