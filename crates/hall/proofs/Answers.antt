@@ -1,19 +1,21 @@
 -- The three demands together: `answer` has `Answered`, and no other answer has; and the plan room afterwards.
 --
--- The claims: `answered`, `answered-only`; `room-length`, `room-plan`, `room-rest`. Assumes nothing.
+-- The claims: `answered`, `answered-only`; `room-length`. Assumes nothing.
 use mathlib.Core.Path.{_≡_, refl, sym, _∙_, ap, subst}
 use mathlib.Core.List.{List}
 use Prim.Native.Nat.{ℕ, _≤_}
 use native.Mathlib.Omega.{arith}
-use lib.ListN.{length, take, drop, length-append, length-drop}
-use lib.Seq.{take-append-seam, drop-append-seam}
+use lib.ListN.{length}
 use lib.IntN.{ℤ}
+use Rattle.lists.proofs.InFront.{room-as-long}
 use Rattle.hall.specs.Hall.{Hall, Plan}
 use Rattle.hall.specs.Walk.{Best, noneYet, soFar, walkHall}
 use Rattle.hall.specs.Ranges.{SheetOf}
 use Rattle.hall.specs.Reading.{Read, bad, got, decode}
 use Rattle.hall.specs.Answer.{Answer, least, none, spent, refused, finished, within, answerRead, answer, roomAfter}
-use Rattle.hall.specs.Demands.{Answered}
+use Rattle.hall.specs.Demands.{Counted, Answered}
+use Rattle.hall.proofs.Bound.{opens-most}
+use Rattle.hall.proofs.Equality.{opens-bounded}
 use Rattle.hall.proofs.Least.{best-least, least-best, none-best, best-none}
 use Rattle.hall.proofs.Sums.{cost-sum, held-sum}
 use Rattle.hall.proofs.Reasons.{Verdict, verdict, verdict-only}
@@ -21,15 +23,18 @@ use Rattle.hall.proofs.Budget.{Ending, stops, ends, ending, over, enoug
 
 module _ (ws : List ℤ) (budget room : ℕ) where
   -- ── the answer has it ──
+  counted : (h : Hall) → SheetOf h ws room → walkHall h .opened ≤ budget → Counted h budget (walkHall h .opened)
+  counted h s l = record { walks = refl; bounded = opens-bounded h (s .ranges); allowed = l }
+
   finished-answered : (h : Hall) → SheetOf h ws room → walkHall h .opened ≤ budget → (b : Best) → walkHall h .best ≡ b → Answered ws budget room (finished h (walkHall h .opened) b)
-  finished-answered h s l noneYet e = record { hall = h; sheet = s; plan = none-best h e; count = refl; allowed = l }
+  finished-answered h s l noneYet e = record { hall = h; sheet = s; plan = none-best h e; count = counted h s l }
   finished-answered h s l (soFar p) e =
       let k = best-least h p e in
       let plan = k .sheet .plan in
-      record { hall = h; sheet = s; plan = k; total = cost-sum p plan; number = held-sum p plan; count = refl; allowed = l }
+      record { hall = h; sheet = s; plan = k; total = cost-sum p plan; number = held-sum p plan; count = counted h s l }
 
   walk-answered : (h : Hall) → SheetOf h ws room → Ending h budget (walkHall h) → Answered ws budget room (within h budget (walkHall h))
-  walk-answered h s (stops l e) = subst (Answered ws budget room) (sym e) (record { hall = h; sheet = s; count = refl; over = l })
+  walk-answered h s (stops l e) = subst (Answered ws budget room) (sym e) (record { hall = h; sheet = s; count = refl; over = l; below = omega (arith, opens-most h) })
   walk-answered h s (ends l e) = subst (Answered ws budget room) (sym e) (finished-answered h s l (walkHall h .best) refl)
 
   pub answered : Answered ws budget room (answer ws budget room)
@@ -48,14 +53,14 @@ module _ (ws : List ℤ) (budget room : ℕ) where
   unfolding answer
   answered-only (least cost held opened p) s =
       let h = s .hall in
-      let l : walkHall h .opened ≤ budget = let a = s .allowed in let c = s .count in omega arith in
+      let l : walkHall h .opened ≤ budget = let a = s .count .allowed in let c = s .count .walks in omega arith in
       let plan = s .plan .sheet .plan in
       answer-is ws room h budget (s .sheet) ∙ enough h budget (walkHall h) l ∙ ap (finished h (walkHall h .opened)) (least-best h p (s .plan))
-      ∙ same-least (cost-sum p plan ∙ sym (s .total)) (held-sum p plan ∙ sym (s .number)) (sym (s .count))
+      ∙ same-least (cost-sum p plan ∙ sym (s .total)) (held-sum p plan ∙ sym (s .number)) (sym (s .count .walks))
   answered-only (none opened) s =
       let h = s .hall in
-      let l : walkHall h .opened ≤ budget = let a = s .allowed in let c = s .count in omega arith in
-      answer-is ws room h budget (s .sheet) ∙ enough h budget (walkHall h) l ∙ ap (finished h (walkHall h .opened)) (best-none h (s .plan)) ∙ rw (s .count)
+      let l : walkHall h .opened ≤ budget = let a = s .count .allowed in let c = s .count .walks in omega arith in
+      answer-is ws room h budget (s .sheet) ∙ enough h budget (walkHall h) l ∙ ap (finished h (walkHall h .opened)) (best-none h (s .plan)) ∙ rw (s .count .walks)
   answered-only (spent opened) s = answer-is ws room (s .hall) budget (s .sheet) ∙ over (s .hall) budget (walkHall (s .hall)) (s .over) ∙ rw (s .count)
   answered-only (refused f i) s = ap (answerRead budget) (verdict-only ws room (bad f i) s)
 
@@ -69,18 +74,12 @@ module _ (ws : List ℤ) (budget : ℕ) (room : List ℕ) where
       let b = s .sheet .fits in
       omega arith
 
+  -- what is written fits; the first n bytes are then the plan, and the rest is as it was (`front-stands` and `rest-stays` of lists)
   pub room-length : length (roomAfter (answer ws budget (length room)) room) ≡ length room
   room-length = go (answer ws budget (length room)) refl
     where
       go : (a : Answer) → answer ws budget (length room) ≡ a → length (roomAfter a room) ≡ length room
-      go (least cost held opened p) e = omega (arith, length-append p (drop (length p) room), length-drop (length p) room, plan-fits cost held opened p e)
+      go (least cost held opened p) e = room-as-long p room (plan-fits cost held opened p e)
       go (none opened) e = refl
       go (spent opened) e = refl
       go (refused f i) e = refl
-
--- the first n bytes are the plan, the rest is as it was
-pub room-plan : (cost held opened : ℕ) (p : Plan) (room : List ℕ) → take (length p) (roomAfter (least cost held opened p) room) ≡ p
-room-plan cost held opened p room = take-append-seam p (drop (length p) room)
-
-pub room-rest : (cost held opened : ℕ) (p : Plan) (room : List ℕ) → drop (length p) (roomAfter (least cost held opened p) room) ≡ drop (length p) room
-room-rest cost held opened p room = drop-append-seam p (drop (length p) room)

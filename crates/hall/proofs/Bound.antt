@@ -2,7 +2,7 @@
 --
 -- The argument: where a number of a plan falls with every child, a walk from p opens at most the power sum up to that number
 -- (`walk-opens`), since a node has at most k children. Two numbers fall: the free devices and the unmet rules; d is the
--- smaller. The claims: `opens-one`, `opens-bounded`. Assumes nothing.
+-- smaller. The claims: `opens-one`, `opens-most`. Assumes nothing.
 use mathlib.Core.Path.{_≡_, refl}
 use mathlib.Core.Bool.{Bool, true, false, cond}
 use mathlib.Core.List.{List, [], _∷_}
@@ -62,10 +62,10 @@ through-opens c p (e ∷ es) x k b = go (isFree p e) refl (through-opens c p es 
 
 -- ── a number that falls with each child ──
 module _ (h : Hall) (μ : Plan → ℕ) (falls : (p : Plan) (e : Entry) → In e (firstUnmet p (h .rules)) → isFree p e ≡ true → μ (hold p e) < μ p) where
-  node-opens : (c : Walker) (p : Plan) → ((e : Entry) (b : Best) → c (hold p e) b .opened ≤ powerSum (widest (h .rules)) (μ (hold p e)))
+  node-most : (c : Walker) (p : Plan) → ((e : Entry) (b : Best) → c (hold p e) b .opened ≤ powerSum (widest (h .rules)) (μ (hold p e)))
       → (b : Best) → node c h p b .opened ≤ powerSum (widest (h .rules)) (μ p)
   unfolding node nodeBy opening still
-  node-opens c p k b = go (meetsAll p (h .rules)) (shut h p b)
+  node-most c p k b = go (meetsAll p (h .rules)) (shut h p b)
     where
       w : ℕ
       w = widest (h .rules)
@@ -89,11 +89,12 @@ module _ (h : Hall) (μ : Plan → ℕ) (falls : (p : Plan) (e : Entry) → In e
 
   walk-opens : (n : ℕ) (p : Plan) (b : Best) → walk h n p b .opened ≤ powerSum (widest (h .rules)) (μ p)
   unfolding walk still
-  walk-opens zero p b = node-opens _ p (λ e b. zero-le) b
-  walk-opens (suc n) p b = node-opens _ p (λ e b. walk-opens n (hold p e) b) b
+  walk-opens zero p b = node-most _ p (λ e b. zero-le) b
+  walk-opens (suc n) p b = node-most _ p (λ e b. walk-opens n (hold p e) b) b
 
 -- ── the claims ──
-node-one : (c : Walker) (h : Hall) (p : Plan) (b : Best) → 1 ≤ node c h p b .opened
+-- a node opens itself at least
+pub node-one : (c : Walker) (h : Hall) (p : Plan) (b : Best) → 1 ≤ node c h p b .opened
 unfolding node opening
 node-one c h p b = omega arith
 
@@ -105,9 +106,9 @@ opens-one h = go (length (start h) - heldOf (start h))
     go zero = node-one _ h _ _
     go (suc n) = node-one _ h _ _
 
-pub opens-bounded : (h : Hall) → walkHall h .opened ≤ boundOf h
+pub opens-most : (h : Hall) → walkHall h .opened ≤ boundOf h
 unfolding walkHall walkFrom
-opens-bounded h = go (tri n m)
+opens-most h = go (tri n m)
   where
     n : ℕ
     n = length (h .costs)

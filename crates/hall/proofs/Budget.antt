@@ -16,7 +16,7 @@ use Rattle.hall.specs.Ranges.{SheetOf}
 use Rattle.hall.specs.Bound.{boundOf}
 use Rattle.hall.specs.Reading.{Fault, Read, bad, got, decode}
 use Rattle.hall.specs.Answer.{spent, refused, finished, within, answerRead, answer, nodesOf, Finished}
-use Rattle.hall.proofs.Bound.{opens-bounded}
+use Rattle.hall.proofs.Bound.{opens-most}
 use Rattle.hall.proofs.Sheets.{accepted}
 
 -- ── of a walk ──
@@ -98,7 +98,7 @@ module _ (ws : List ℤ) (room : ℕ) where
   -- where the power sum is at most the budget, spent is never said
   pub never-spent : (h : Hall) (budget : ℕ) → SheetOf h ws room → boundOf h ≤ budget → Finished (answer ws budget room)
   never-spent h budget s l =
-      subst Finished (sym (answer-is h budget s ∙ enough h budget (walkHall h) (omega (arith, opens-bounded h))))
+      subst Finished (sym (answer-is h budget s ∙ enough h budget (walkHall h) (omega (arith, opens-most h))))
       (finished-is h (walkHall h .opened) (walkHall h .best))
 
   -- a refusal does not depend on the budget

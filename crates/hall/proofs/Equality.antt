@@ -4,7 +4,8 @@
 -- The argument: at every node each rule is met or wholly free, and as many devices are held as rules are met (`State`). So the
 -- first unmet rule opens all of its k children, and each leaves one rule less. Nothing is closed: every best so far holds a
 -- device for each rule (`Full`), an open node fewer, and equal costs make it no dearer (`not-shut`). With k = 0 the bound is 1
--- and needs no such argument. The claim: `opens-exactly`. Assumes nothing.
+-- and needs no such argument. The claims: `opens-exactly`, and with `opens-most` all of demand 3's bound: `opens-bounded`. Assumes
+-- nothing.
 use mathlib.Core.Path.{_≡_, refl, sym, _∙_, ap, subst}
 use mathlib.Core.Bool.{true}
 use mathlib.Core.List.{List, [], _∷_}
@@ -17,14 +18,14 @@ use Rattle.hall.specs.Order.{ifHeld, costOf, heldOf}
 use Rattle.hall.specs.Walk.{Best, noneYet, soFar, Walker, still, after, entryBy, through, opening, nodeBy, node, walk, walkFrom, start, walkHall}
 use Rattle.lists.specs.Lists.{Each}
 use Rattle.hall.specs.Ranges.{HallInRange}
-use Rattle.hall.specs.Bound.{widest, depth, powerSum, EqualityCase}
+use Rattle.hall.specs.Bound.{widest, depth, powerSum, boundOf, EqualityCase, Bounded}
 use Rattle.hall.proofs.Plans.{hold-held, hold-length, held-all, start-plan, start-held}
 use Rattle.hall.proofs.Rules.{In, first, later, AllFree}
 use Rattle.hall.proofs.Unmet.{unmet}
 use Rattle.hall.proofs.Shut.{All, not-shut}
 use Rattle.hall.proofs.Walks.{child-fuel, no-child}
 use Rattle.hall.proofs.Least.{keep-all}
-use Rattle.hall.proofs.Bound.{horner, opens-one, opens-bounded}
+use Rattle.hall.proofs.Bound.{horner, opens-one, opens-most}
 use Rattle.hall.proofs.Apart.{Alone, apart-alone, Fit, start-fit, fit-hold, first-free, none-unmet}
 
 -- with equal costs the cost is the held number's multiple
@@ -47,7 +48,10 @@ through-exact I c p x (e ∷ es) f k b i =
     let v = through-exact I c p x es (f .1) (λ d b j. k d b (later j)) (c (hold p e) b .best) (u .1) in
     rw (f .0) (omega (arith, suc-mul (length es) x), v .1)
 
-module _ (h : Hall) (k : ℕ) (q : EqualityCase h k) (o : Alone (h .rules)) where
+module _ (h : Hall) (q : EqualityCase h) (o : Alone (h .rules)) where
+  abbrev k : ℕ
+  k = widest (h .rules)
+
   -- every best so far holds a device for each rule
   abbrev Full : Plan → Type 0
   Full r = (length r ≡ length (h .costs)) × (heldOf r ≡ length (h .rules))
@@ -112,21 +116,15 @@ unfolding powerSum
 powers-zero zero = refl
 powers-zero (suc d) = horner 0 d ∙ omega (arith, zero-mul (powerSum 0 d))
 
-widest-zero : (rs : List Rule) → Each (λ r. length r ≡ 0) rs → widest rs ≡ 0
-unfolding widest
-widest-zero [] w = refl
-widest-zero (r ∷ rs) w = let a = w .0 in omega (arith, widest-zero rs (w .1))
-
-exactly-zero : (h : Hall) → Each (λ r. length r ≡ 0) (h .rules) → walkHall h .opened ≡ powerSum 0 (depth h)
-exactly-zero h w =
-    let e = widest-zero (h .rules) w in
-    let b = rw (e, powers-zero) at (opens-bounded h) in
-    rw powers-zero (omega (arith, opens-one h))
+exactly-zero : (h : Hall) → widest (h .rules) ≡ 0 → walkHall h .opened ≡ boundOf h
+exactly-zero h e =
+    let b = rw (e, powers-zero) at (opens-most h) in
+    rw (e, powers-zero) (omega (arith, opens-one h))
 
 -- ── a wider rule ──
-exactly-more : (h : Hall) (j : ℕ) → HallInRange h → EqualityCase h (suc j) → walkHall h .opened ≡ powerSum (suc j) (depth h)
+exactly-more : (h : Hall) (j : ℕ) → widest (h .rules) ≡ suc j → HallInRange h → EqualityCase h → walkHall h .opened ≡ boundOf h
 unfolding walkHall walkFrom start
-exactly-more h j r q = walked .0 ∙ reached
+exactly-more h j kj r q = walked .0 ∙ reached
   where
     n : ℕ
     n = length (h .costs)
@@ -137,22 +135,28 @@ exactly-more h j r q = walked .0 ∙ reached
     fit : Fit (start h) (h .rules) × (unmet (start h) (h .rules) ≡ length (h .rules))
     fit = start-fit n (h .rules) o (r .good)
 
-    state : State h (suc j) q o (start h)
+    state : State h q o (start h)
     state = let u = fit .1 in record { size = start-plan h .size; fit = fit .0; sum = rw (start-held n) (omega arith) }
 
     free : ℕ
     free = length (start h) - heldOf (start h)
 
-    walked : (walk h free (start h) noneYet .opened ≡ powerSum (suc j) (unmet (start h) (h .rules))) × All (Full h (suc j) q o) (walk h free (start h) noneYet .best)
-    walked = walk-exact h (suc j) q o free (start h) (omega arith) state noneYet tt
+    walked : (walk h free (start h) noneYet .opened ≡ powerSum (widest (h .rules)) (unmet (start h) (h .rules))) × All (Full h q o) (walk h free (start h) noneYet .best)
+    walked = walk-exact h q o free (start h) (omega arith) state noneYet tt
 
-    reached : powerSum (suc j) (unmet (start h) (h .rules)) ≡ powerSum (suc j) (depth h)
+    reached : powerSum (widest (h .rules)) (unmet (start h) (h .rules)) ≡ powerSum (widest (h .rules)) (depth h)
     reached =
-        let l = no-more-rules h (suc j) q o j refl (unmet (start h) (h .rules)) (start h) state refl in
+        let l = no-more-rules h q o j kj (unmet (start h) (h .rules)) (start h) state refl in
         let e : min n (length (h .rules)) ≡ length (h .rules) = omega arith in
         rw (e, fit .1)
 
--- the claim
-pub opens-exactly : (h : Hall) (k : ℕ) → HallInRange h → EqualityCase h k → walkHall h .opened ≡ powerSum k (depth h)
-opens-exactly h zero r q = exactly-zero h (q .wide)
-opens-exactly h (suc j) r q = exactly-more h j r q
+-- ── the claims ──
+pub opens-exactly : (h : Hall) → HallInRange h → EqualityCase h → walkHall h .opened ≡ boundOf h
+opens-exactly h r q = go (widest (h .rules)) refl
+  where
+    go : (k : ℕ) → widest (h .rules) ≡ k → walkHall h .opened ≡ boundOf h
+    go zero e = exactly-zero h e
+    go (suc j) e = exactly-more h j e r q
+
+pub opens-bounded : (h : Hall) → HallInRange h → Bounded h (walkHall h .opened)
+opens-bounded h r = record { most = opens-most h; equal = opens-exactly h r }

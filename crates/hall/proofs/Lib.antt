@@ -17,4 +17,5 @@ pub mod Due
 pub mod Reasons
 pub mod Budget
 pub mod Answers
+pub mod Exactly
 pub mod Largest

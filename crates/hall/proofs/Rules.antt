@@ -1,12 +1,14 @@
--- THE LAWS OF `meetsRule`: all that the walk's theorems know of it.
+-- THE LAWS OF `meetsRule`: all that is known of it, in this crate and in those above.
 --
---     branch        1. a rule that q meets, and p, which q extends, does not, has a first entry that q holds; its device is
---                      free under p
---     meets-mono    2. a rule that is met stays met
---     hold-meets    3. holding a free entry of a rule meets it
---     free-unmet    4. a rule whose devices are all free and different is not met
+--     branch         1. a rule that q meets, and p, which q extends, does not, has a first entry that q holds; its device is
+--                       free under p
+--     meets-mono     2. a rule that is met stays met
+--     held-meets     3. a rule with an entry that is held is met
+--     unheld-unmet   4. a rule none of whose entries is held is not met
 --
--- Another meaning of `meetsRule` is paid for here and nowhere else. Assumes nothing.
+-- From 3 and 4: holding a free entry of a rule meets it (`hold-meets`), a rule whose devices are all free and different is not met
+-- (`free-unmet`), and a rule of one entry is met only by holding it (`single-held`). Another meaning of `meetsRule` is paid for
+-- here: no other proof unfolds it but the tables of rows, which compute it. Assumes nothing.
 use mathlib.Core.Path.{_≡_, refl}
 use mathlib.Core.Logic.{_⊎_, inl, inr}
 use mathlib.Core.Bool.{true, false, _||_, false≢true}
@@ -15,10 +17,11 @@ use Prim.Native.Nat.{ℕ, zero, suc}
 use native.Mathlib.Omega.{arith}
 use lib.ListN.{getD}
 use borrow.Author.Tests.{eqb-true, eq-eqb}
-use Rattle.hall.specs.Hall.{Entry, at1, at0, device, Rule, Plan, holds, isFree, hold, meetsRule}
+use Rattle.hall.specs.Hall.{Entry, at1, at0, Rule, Plan, holds, isFree, hold, meetsRule}
 use Rattle.lists.specs.Lists.{Each}
-use Rattle.hall.specs.Bound.{absent, once}
-use Rattle.lists.proofs.Cases.{test, both, or-false, or-right, and-both}
+use Rattle.hall.specs.Bound.{once}
+use Rattle.lists.proofs.Cases.{test, both, or-false, or-right}
+use Rattle.lists.proofs.Each.{each-map}
 use Rattle.hall.proofs.Plans.{Extends, end, free, same, extends-hold, held-or-free, hold-holds}
 
 -- the first entry of a rule that q holds: its device is free under p, and with it held q still extends the plan
@@ -66,13 +69,22 @@ meets-mono {p} {q} (e ∷ es) x h = go (test (holds p e)) (meets-mono es x)
     go (inl u) ih = rw (holds-mono e x u)
     go (inr u) ih = or-right (holds q e) (meetsRule q es) (ih (rw u at h))
 
--- law 3: holding a free entry of a rule meets it
-pub hold-meets : (p : Plan) (e : Entry) (r : Rule) → In e r → isFree p e ≡ true → meetsRule (hold p e) r ≡ true
+-- law 3: a rule with an entry that is held is met
+pub held-meets : (p : Plan) (e : Entry) (r : Rule) → In e r → holds p e ≡ true → meetsRule p r ≡ true
 unfolding meetsRule
-hold-meets p e (e′ ∷ es) first f = rw (hold-holds p e f)
-hold-meets p e (d ∷ es) (later i) f = or-right (holds (hold p e) d) (meetsRule (hold p e) es) (hold-meets p e es i f)
+held-meets p e (e′ ∷ es) first h = rw h
+held-meets p e (d ∷ es) (later i) h = or-right (holds p d) (meetsRule p es) (held-meets p e es i h)
 
--- law 4: a rule that names no device twice, all of them free, is not met
+-- law 4: a rule none of whose entries is held is not met
+pub unheld-unmet : (p : Plan) (r : Rule) → Each (λ e. holds p e ≡ false) r → meetsRule p r ≡ false
+unfolding meetsRule
+unheld-unmet p [] u = refl
+unheld-unmet p (e ∷ es) u = rw (u .0) (unheld-unmet p es (u .1))
+
+-- ── what follows from them ──
+pub hold-meets : (p : Plan) (e : Entry) (r : Rule) → In e r → isFree p e ≡ true → meetsRule (hold p e) r ≡ true
+hold-meets p e r i f = held-meets (hold p e) e r i (hold-holds p e f)
+
 abbrev pub AllFree : Plan → Rule → Type 0
 AllFree p r = Each (λ e. isFree p e ≡ true) r
 
@@ -87,6 +99,11 @@ free-unheld p (at1 v) h = rw (free-zero p v (eqb-true _ _ h))
 free-unheld p (at0 v) h = rw (free-zero p v (eqb-true _ _ h))
 
 pub free-unmet : (p : Plan) (r : Rule) → once r ≡ true → AllFree p r → meetsRule p r ≡ false
-unfolding meetsRule once
-free-unmet p [] o f = refl
-free-unmet p (e ∷ es) o f = rw (free-unheld p e (f .0)) (free-unmet p es (and-both (absent (device e) es) (once es) o .1) (f .1))
+free-unmet p r o f = unheld-unmet p r (each-map (λ e. isFree p e ≡ true) (λ e. holds p e ≡ false) (free-unheld p) r f)
+
+pub single-held : (p : Plan) (e : Entry) → meetsRule p (e ∷ []) ≡ true → holds p e ≡ true
+single-held p e m = go (test (holds p e))
+  where
+    go : (holds p e ≡ true) ⊎ (holds p e ≡ false) → holds p e ≡ true
+    go (inl u) = u
+    go (inr u) = both m (unheld-unmet p (e ∷ []) (u, tt))

@@ -1,15 +1,18 @@
--- THE LAWS OF `shut`, what closes a node: all that the walk's theorems know of it.
+-- THE LAWS OF `shut`, what closes a node: all that is known of it, in this crate and in those above.
 --
 --     shut-covers   1. where a plan that does not meet every rule is shut, no plan that extends it and does is better than the
 --                      best so far
 --     not-shut      2. a plan that costs no more than the best so far and holds fewer devices is not shut
+--     shut-none     3. where there is no best so far, no plan is shut
+--     shut-best     4. where there is one, a plan is shut by its two numbers and the best's
 --
--- Another test for closing a node is paid for here and nowhere else. Assumes nothing.
+-- The walk's theorems know 1 and 2; 3 and 4 are for the code that asks. Another test for closing a node is paid for here: no other
+-- proof unfolds `shut` or `closes` but the tables of rows, which compute them. Assumes nothing.
 use mathlib.Core.Path.{_≡_, refl, _∙_}
 use mathlib.Core.Logic.{_⊎_, inl, inr}
 use mathlib.Core.Bool.{true, false, false≢true}
 use mathlib.Core.List.{List, [], _∷_}
-use Prim.Native.Nat.{ℕ, _≤_, _<_}
+use Prim.Native.Nat.{ℕ, _+_, _≤_, _<_}
 use native.Mathlib.Omega.{arith}
 use Rattle.hall.specs.Hall.{Hall, Plan, meetsAll}
 use Rattle.hall.specs.Order.{costOf, heldOf, less, rank, better}
@@ -62,3 +65,11 @@ not-shut h p (soFar b) a = go (tri (costOf (h .costs) b) (costOf (h .costs) p)) 
     go (level u) (level v) c k = less-level _ _ _ _ u ∙ less-level _ _ _ _ v ∙ irreflexive []
     go (level u) (above v) c k = less-level _ _ _ _ u ∙ less-above _ _ _ _ v
     go (above u) w c k = less-above _ _ _ _ u
+
+pub shut-none : (h : Hall) (p : Plan) → shut h p noneYet ≡ false
+unfolding shut closes
+shut-none h p = refl
+
+pub shut-best : (h : Hall) (p b : Plan) → shut h p (soFar b) ≡ less (costOf (h .costs) b ∷ heldOf b ∷ []) (costOf (h .costs) p ∷ (heldOf p + 1) ∷ [])
+unfolding shut closes oneMore
+shut-best h p b = refl

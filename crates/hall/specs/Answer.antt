@@ -3,11 +3,11 @@
 -- In order: the answer's cases; a finished walk; the budget; the whole; its numbers, its count, whether it is finished; the plan
 -- room. Definitions only.
 use mathlib.Core.Bool.{Bool, true, false}
-use mathlib.Core.List.{List, [], _∷_, _++_}
+use mathlib.Core.List.{List, [], _∷_}
 use Prim.Native.Nat.{ℕ}
-use lib.ListN.{length, drop}
 use lib.IntN.{ℤ}
 use lib.Dec.{ltb}
+use Rattle.lists.specs.Lists.{inFront}
 use Rattle.hall.specs.Hall.{Hall, Plan}
 use Rattle.hall.specs.Order.{costOf, heldOf}
 use Rattle.hall.specs.Walk.{Best, noneYet, soFar, Walked, walkHall}
@@ -65,7 +65,7 @@ Finished (refused f place) = Unit {0}
 
 -- "Plan room afterwards": "first n bytes: 0 free, 1 held at 1, 2 held at 0; the rest unchanged", else "unchanged"
 abbrev pub roomAfter : Answer → List ℕ → List ℕ
-roomAfter (least cost held opened p) room = p ++ drop (length p) room
+roomAfter (least cost held opened p) room = inFront p room
 roomAfter (none opened) room = room
 roomAfter (spent opened) room = room
 roomAfter (refused f place) room = room

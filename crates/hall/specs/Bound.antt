@@ -1,10 +1,10 @@
 -- The bound on the nodes opened, and the halls on which it is reached. 01, "The walk", and demand 3.
 --
--- In order: k, d and the power sum; the equality case. Definitions only.
+-- In order: k, d and the power sum; the equality case; what demand 3 says of a count. Definitions only.
 use mathlib.Core.Path.{_≡_}
 use mathlib.Core.Bool.{Bool, true, not, _&&_}
 use mathlib.Core.List.{List, [], _∷_, _++_}
-use Prim.Native.Nat.{ℕ, zero, suc, _+_, _^_, min, max}
+use Prim.Native.Nat.{ℕ, zero, suc, _+_, _^_, _≤_, min, max}
 use lib.ListN.{length, replicate}
 use lib.Dec.{eqb}
 use Rattle.hall.specs.Hall.{Entry, device, Rule, Hall}
@@ -42,10 +42,15 @@ unfoldable pub once : List Entry → Bool
 once [] = true
 once (e ∷ es) = absent (device e) es && once es
 
--- the equality case, with the common width k: no device is written twice in the rules, all rules are equally long, all costs
--- are equal
-pub record EqualityCase (h : Hall) (k : ℕ) : Type 0 where
+-- demand 3, the equality case: "no device is written twice in the rules, all rules are equally long and all costs are equal"; each
+-- rule is as wide as the widest
+pub record EqualityCase (h : Hall) : Type 0 where
   pub apart : once (entries (h .rules)) ≡ true
-  pub wide : Each (λ r. length r ≡ k) (h .rules)
+  pub wide : Each (λ r. length r ≡ widest (h .rules)) (h .rules)
   pub cost : ℕ
   pub level : h .costs ≡ replicate (length (h .costs)) cost
+
+-- demand 3: "at most 1 + k + ... + k^d .., equal to it where" the equality case holds
+pub record Bounded (h : Hall) (opened : ℕ) : Type 0 where
+  pub most : opened ≤ boundOf h
+  pub equal : EqualityCase h → opened ≡ boundOf h

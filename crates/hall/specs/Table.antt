@@ -1,7 +1,7 @@
 -- Sheets with known answers. 01, "Sheets with known answers", and rows of our own.
 --
 -- In order: what a row says and what the definitions say for it; 01's rows with a star; 01's other rows; rows for ways astray
--- that no starred row tells apart; the largest total. Definitions only; that the rows are right is proofs/Known.
+-- that no starred row tells apart; the largest total. Definitions only; that the rows are right is proofs/AnswerTables.
 use mathlib.Core.List.{List, [], _∷_, _++_}
 use Prim.Native.Nat.{ℕ, zero, suc}
 use lib.ListN.{replicate}

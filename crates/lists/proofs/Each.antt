@@ -1,4 +1,5 @@
--- Laws of `Each`: of a list after another (`each-append`), of a repeated element (`each-replicate`). Assumes nothing.
+-- Laws of `Each`: of a list after another (`each-append`), of a repeated element (`each-replicate`), from one property to another
+-- (`each-map`). Assumes nothing.
 use mathlib.Core.List.{List, [], _∷_, _++_}
 use Prim.Native.Nat.{ℕ, zero, suc}
 use lib.ListN.{replicate}
@@ -12,3 +13,7 @@ module _ {A : Type 0} (P : A → Type 0) where
   pub each-replicate : (n : ℕ) (a : A) → P a → Each P (replicate n a)
   each-replicate zero a p = tt
   each-replicate (suc n) a p = (p, each-replicate n a p)
+
+pub each-map : {A : Type 0} (P Q : A → Type 0) → ((a : A) → P a → Q a) → (l : List A) → Each P l → Each Q l
+each-map P Q f [] h = tt
+each-map P Q f (a ∷ l) h = (f a (h .0), each-map P Q f l (h .1))

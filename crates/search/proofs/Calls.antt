@@ -38,7 +38,7 @@ module _ (ws : List ℤ) (costs codes starts costs′ codes′ starts′ : List 
     where
       go : (x : Read Hall) → decode (length before) ws ≡ x → refusalCode kind ∷ place ∷ [] ≡ numbersRead x → Finds ws budget before (Refused kind place) before
       go (bad f i) u q = let a : answer ws budget (length before) ≡ answerRead budget (bad f i) = ap (answerRead budget) u in
-          finds ws budget before (Refused kind place) (q ∙ sym (ap numbers a)) before (sym (ap (λ x. roomAfter x before) a))
+          finds ws budget before (Refused kind place) before (q ∙ sym (ap numbers a)) (sym (ap (λ x. roomAfter x before) a))
       go (got h j) u q = absurd (let z : _≡_ {A = ℕ} 0 1 = cc in omega arith)
 
   -- ── an accepted sheet ──
@@ -139,4 +139,4 @@ module _ (ws : List ℤ) (costs codes starts costs′ codes′ starts′ : List 
   call-found budget r after g =
       let a : answer ws budget (length before) ≡ within h budget (walkHall h) = ap (answerRead budget) (hall-read .is) in
       let b = subst (λ (x : Hall). Gives x budget r before after) (ap (λ (k : ℕ). hallOf (take k costs′) codes′ starts′ m) (sub-zero n) ∙ back) g in
-      finds ws budget before r (b .says ∙ sym (ap numbers a)) after (b .room ∙ sym (ap (λ x. roomAfter x before) a))
+      finds ws budget before r after (b .says ∙ sym (ap numbers a)) (b .room ∙ sym (ap (λ x. roomAfter x before) a))
