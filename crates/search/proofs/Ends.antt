@@ -18,7 +18,7 @@ use Rattle.search.specs.declared.walk.Went.the-variants.{On, Spent}
 use Rattle.search.specs.Meter.{counted, admit}
 use Rattle.search.specs.Ends.{WentOn, Ends}
 
-module _ {costs : List ℕ} {mt : Meter} {v : Walked} {next : State} {room : Plan} (x : WentOn costs mt v next room) where
+module _ {costs : List ℕ} {mt : Meter} {v : Walked} {next : State} {bestPlan : Plan} (x : WentOn costs mt v next bestPlan) where
   -- the meter that the first part left
   left : (next .meter .count ≡ mt .count + v .opened) × (next .meter .budget ≡ mt .budget)
   left = (ap (λ (n : Meter). n .count) (x .meter), ap (λ (n : Meter). n .budget) (x .meter))
@@ -26,9 +26,9 @@ module _ {costs : List ℕ} {mt : Meter} {v : Walked} {next : State} {room : Pla
   pub still-budgeted : next .meter .count ≤ next .meter .budget
   still-budgeted = let l = left in let w = x .within in omega arith
 
-  pub ends-then : (w : Walked) (went : Went) (room′ : Plan) → Ends costs (next .meter) w went room′ → Ends costs mt (after v w) went room′
+  pub ends-then : (w : Walked) (went : Went) (bestPlan′ : Plan) → Ends costs (next .meter) w went bestPlan′ → Ends costs mt (after v w) went bestPlan′
   unfolding after
-  ends-then w (On last) room′ y =
+  ends-then w (On last) bestPlan′ y =
       let l = left in
       let u = y .within in
       record {
@@ -37,7 +37,7 @@ module _ {costs : List ℕ} {mt : Meter} {v : Walked} {next : State} {room : Pla
         best = y .best;
         shown = y .shown;
       }
-  ends-then w (Spent end) room′ y = let l = left in let u = y .over in record { over = omega arith; count = y .count ∙ l .1 }
+  ends-then w (Spent end) bestPlan′ y = let l = left in let u = y .over in record { over = omega arith; count = y .count ∙ l .1 }
 
 -- ── the meter ──
 module _ (mt : Meter) (a : Admission) (e : a ≡ admit mt) where

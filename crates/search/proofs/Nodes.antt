@@ -1,11 +1,11 @@
 -- A node of the definitions' walk by what holds at it, and one entry of its rule.
 --
--- In order: a plan that meets every rule (`node-met`), a node that is shut (`node-shut`), one that branches (`node-branches`); a node
--- opens itself at least (`node-opens`); an entry whose device is held or free (`through-held`, `through-free`). Assumes nothing.
+-- In order: a plan that meets every rule (`node-met`), a node that is shut (`node-shut`), one that branches (`node-branches`); an
+-- entry whose device is held or free (`through-held`, `through-free`). Assumes nothing.
 use mathlib.Core.Path.{_≡_, refl, ap}
 use mathlib.Core.Bool.{true, false}
 use mathlib.Core.List.{_∷_}
-use Prim.Native.Nat.{ℕ, suc, _+_, _≤_}
+use Prim.Native.Nat.{ℕ, suc, _+_}
 use native.Mathlib.Omega.{arith}
 use Rattle.hall.specs.Hall.{Entry, Rule, Hall, Plan, isFree, hold, meetsAll, firstUnmet}
 use Rattle.hall.specs.Walk.{Best, soFar, Walked, Walker, keep, shut, still, after, entryBy, through, opening, nodeBy, node}
@@ -28,10 +28,6 @@ module _ (child : Walker) (h : Hall) (p : Plan) (b : Best) where
   pub node-branches : {r : Rule} → meetsAll p (h .rules) ≡ false → shut h p b ≡ false → firstUnmet p (h .rules) ≡ r → node child h p b ≡ after (alone b) (through child p r b)
   unfolding node nodeBy
   node-branches {r} e f g = rw (e, f, g) (opening-first b (through child p r b))
-
-  pub node-opens : 1 ≤ node child h p b .opened
-  unfolding node opening
-  node-opens = omega arith
 
 module _ (child : Walker) (p : Plan) (e : Entry) (es : Rule) (b : Best) where
   pub through-held : isFree p e ≡ false → through child p (e ∷ es) b ≡ through child p es b

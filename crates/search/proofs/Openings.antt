@@ -1,7 +1,7 @@
 -- Opening a node does what the walk of the definitions does there, whatever walks its children.
 --
 -- In order: step 1 by the answer to its question (`settles-better`, `settles-kept`); the last test of step 2 (`less-last`); steps 1 and
--- 2 on the numbers are those on the plans (`settled`, `closes-is`); the four ways in which opening a node ends (`opened-stopped`,
+-- 2 on the numbers are those on the plans (`settled`, `closed-is`); the four ways in which opening a node ends (`opened-stopped`,
 -- `opened-met`, `opened-shut`, `opened-branch`). Assumes nothing.
 use mathlib.Core.Path.{_≡_, refl, sym, _∙_}
 use mathlib.Core.Bool.{Bool, true, false, cond}
@@ -10,11 +10,12 @@ use Prim.Native.Nat.{ℕ, _+_, _≤_}
 use native.Mathlib.Omega.{arith}
 use lib.Dec.{leb}
 use borrow.Author.Tests.{le-leb, lt-leb}
-use Rattle.hall.specs.Hall.{Plan}
+use Rattle.hall.specs.Hall.{Hall, Plan}
 use Rattle.hall.specs.Order.{less, rank, better}
-use Rattle.hall.specs.Walk.{Best, noneYet, soFar, keep, oneMore, closes, shut, still, opening}
+use Rattle.hall.specs.Walk.{Best, noneYet, soFar, keep, shut, still, opening}
 use Rattle.lists.proofs.Cases.{Tri, below, level, above, tri}
 use Rattle.hall.proofs.Order.{less-below, less-level, less-above}
+use Rattle.hall.proofs.Shut.{shut-none, shut-best}
 use Rattle.sheet.specs.Coded.{hallOf}
 use Rattle.search.specs.declared.meter.Meter.{Meter}
 use Rattle.search.specs.declared.meter.Admission.{Admission}
@@ -32,11 +33,11 @@ use Rattle.search.specs.Node.{alone, Opens}
 use Rattle.search.proofs.Ends.{admitted, stopped}
 use Rattle.search.proofs.Nodes.{node-met, node-shut, node-branches}
 
-module _ {best : BestSoFar} {room p : Plan} {cost held : ℕ} {answer : Bool} (asked : answer ≡ isBetter best room p cost held) where
-  pub settles-better : {room′ : Plan} → answer ≡ true → room′ ≡ p → Settles best room p cost held (record { found = true; cost = cost; held = held }) room′
+module _ {best : BestSoFar} {bestPlan p : Plan} {cost held : ℕ} {answer : Bool} (asked : answer ≡ isBetter best bestPlan p cost held) where
+  pub settles-better : {bestPlan′ : Plan} → answer ≡ true → bestPlan′ ≡ p → Settles best bestPlan p cost held (record { found = true; cost = cost; held = held }) bestPlan′
   settles-better yes-so copied = let better = sym asked ∙ yes-so in record { numbers = rw better refl; written = rw better copied }
 
-  pub settles-kept : answer ≡ false → Settles best room p cost held best room
+  pub settles-kept : answer ≡ false → Settles best bestPlan p cost held best bestPlan
   settles-kept not-so = let worse = sym asked ∙ not-so in record { numbers = rw worse refl; written = rw worse refl }
 
 pub less-last : (x y : ℕ) → less (x ∷ []) ((y + 1) ∷ []) ≡ leb x y
@@ -49,81 +50,79 @@ less-last x y = go (tri x (y + 1))
     go (above u) = less-above _ _ [] [] u ∙ sym (lt-leb x y (omega arith))
 
 -- ── steps 1 and 2 ──
-module _ (costs : List ℕ) (p room : Plan) (cost held : ℕ) (tally : Tally costs p cost held) where
-  better-is : {c k : ℕ} → Tally costs room c k → less (cost ∷ held ∷ p) (c ∷ k ∷ room) ≡ better costs p room
+module _ (costs : List ℕ) (p bestPlan : Plan) (cost held : ℕ) (tally : Tally costs p cost held) where
+  better-is : {c k : ℕ} → Tally costs bestPlan c k → less (cost ∷ held ∷ p) (c ∷ k ∷ bestPlan) ≡ better costs p bestPlan
   unfolding better rank
   better-is t = rw (tally .cost-is, tally .held-is, t .cost-is, t .held-is) refl
 
-  closes-is : (best : BestSoFar) → Shown costs best room → isClosed best cost held ≡ closes costs p (bestOf best room)
-  unfolding closes oneMore
-  closes-is best shown = go (best .found) (best .cost) (best .held) shown
+  closed-is : (h : Hall) → h .costs ≡ costs → (best : BestSoFar) → Shown costs best bestPlan → isClosed best cost held ≡ shut h p (bestOf best bestPlan)
+  closed-is h same best shown = go (best .found) (best .cost) (best .held) shown
     where
-      go : (f : Bool) (c k : ℕ) → (f ≡ true → Tally costs room c k) → isClosed (record { found = f; cost = c; held = k }) cost held ≡ closes costs p (cond f (soFar room) noneYet)
-      go true c k t = simp (tally .cost-is, tally .held-is, t refl .cost-is, t refl .held-is)
-      go false c k t = refl
+      go : (f : Bool) (c k : ℕ) → (f ≡ true → Tally costs bestPlan c k) → isClosed (record { found = f; cost = c; held = k }) cost held ≡ shut h p (cond f (soFar bestPlan) noneYet)
+      go true c k t = rw (shut-best h p bestPlan, same) (simp (tally .cost-is, tally .held-is, t refl .cost-is, t refl .held-is))
+      go false c k t = sym (shut-none h p)
 
-  -- what the room shows after a plan that meets every rule
+  -- the best so far after a plan that meets every rule
   abbrev Kept : BestSoFar → BestSoFar → Plan → Type 0
-  Kept best best′ room′ = (bestOf best′ room′ ≡ soFar (keep costs p (bestOf best room))) × Shown costs best′ room′
+  Kept best best′ bestPlan′ = (bestOf best′ bestPlan′ ≡ soFar (keep costs p (bestOf best bestPlan))) × Shown costs best′ bestPlan′
 
   abbrev mine : BestSoFar
   mine = record { found = true; cost = cost; held = held }
 
-  kept : (f : Bool) (c k : ℕ) → (f ≡ true → Tally costs room c k) →
+  kept : (f : Bool) (c k : ℕ) → (f ≡ true → Tally costs bestPlan c k) →
       (let best : BestSoFar = record { found = f; cost = c; held = k } in
-      let t = isBetter best room p cost held in
-      Kept best (cond t mine best) (cond t p room))
+      let t = isBetter best bestPlan p cost held in
+      Kept best (cond t mine best) (cond t p bestPlan))
   unfolding keep
   kept false c k shown = (refl, λ _. tally)
-  kept true c k shown = rw (better-is (shown refl)) (go (better costs p room))
+  kept true c k shown = rw (better-is (shown refl)) (go (better costs p bestPlan))
     where
       go : (t : Bool) →
           (let best′ = cond t mine (record { found = true; cost = c; held = k }) in
-          (bestOf best′ (cond t p room) ≡ soFar (cond t p room)) × Shown costs best′ (cond t p room))
+          (bestOf best′ (cond t p bestPlan) ≡ soFar (cond t p bestPlan)) × Shown costs best′ (cond t p bestPlan))
       go true = (refl, λ _. tally)
       go false = (refl, shown)
 
-  settled : (best best′ : BestSoFar) (room′ : Plan) → Shown costs best room → Settles best room p cost held best′ room′ → Kept best best′ room′
-  settled best best′ room′ shown s = rw (s .numbers, s .written) (kept (best .found) (best .cost) (best .held) shown)
+  settled : (best best′ : BestSoFar) (bestPlan′ : Plan) → Shown costs best bestPlan → Settles best bestPlan p cost held best′ bestPlan′ → Kept best best′ bestPlan′
+  settled best best′ bestPlan′ shown s = rw (s .numbers, s .written) (kept (best .found) (best .cost) (best .held) shown)
 
 -- ── opening a node ──
-module _ (codes starts : List ℕ) (m : ℕ) (p room : Plan) (s : State) (cost held : ℕ) (a : Admission) (asked : a ≡ admit (s .meter)) where
-  pub opened-stopped : (end : Meter) (room′ : Plan) → a ≡ admission.Stopped end → s .meter .count ≤ s .meter .budget → Opens codes starts m p room s cost held (Stopped end) room′
+module _ (codes starts : List ℕ) (m : ℕ) (p bestPlan : Plan) (s : State) (cost held : ℕ) (a : Admission) (asked : a ≡ admit (s .meter)) where
+  pub opened-stopped : (end : Meter) (bestPlan′ : Plan) → a ≡ admission.Stopped end → s .meter .count ≤ s .meter .budget → Opens codes starts m p bestPlan s cost held (Stopped end) bestPlan′
   unfolding opening still
-  opened-stopped end room′ e l = let x = stopped (s .meter) a asked end e l in record { opened = λ costs tally shown. record { over = x .0; count = x .1 } }
+  opened-stopped end bestPlan′ e l = let x = stopped (s .meter) a asked end e l in record { opened = λ costs tally shown. record { over = x .0; count = x .1 } }
 
   module _ (next : Meter) (e : a ≡ admission.Admitted next) where
-    went : (costs : List ℕ) (best : BestSoFar) (room′ : Plan) {b : Best} → bestOf best room′ ≡ b → Shown costs best room′ → WentOn costs (s .meter) (alone b) (record { meter = next; best = best }) room′
+    went : (costs : List ℕ) (best : BestSoFar) (bestPlan′ : Plan) {b : Best} → bestOf best bestPlan′ ≡ b → Shown costs best bestPlan′ → WentOn costs (s .meter) (alone b) (record { meter = next; best = best }) bestPlan′
     unfolding opening still
-    went costs best room′ is shown = let x = admitted (s .meter) a asked next e in record { within = x .0; meter = x .1; best = is; shown = shown }
+    went costs best bestPlan′ is shown = let x = admitted (s .meter) a asked next e in record { within = x .0; meter = x .1; best = is; shown = shown }
 
-    pub opened-met : (u : Unmet) → FirstUnmet codes starts m p u → u ≡ AllMet → (best′ : BestSoFar) (room′ : Plan) → Settles (s .best) room p cost held best′ room′ →
-        Opens codes starts m p room s cost held (Leaf (record { meter = next; best = best′ })) room′
-    opened-met u f g best′ room′ x = record {
+    pub opened-met : (u : Unmet) → FirstUnmet codes starts m p u → u ≡ AllMet → (best′ : BestSoFar) (bestPlan′ : Plan) → Settles (s .best) bestPlan p cost held best′ bestPlan′ →
+        Opens codes starts m p bestPlan s cost held (Leaf (record { meter = next; best = best′ })) bestPlan′
+    opened-met u f g best′ bestPlan′ x = record {
       opened = λ costs tally shown child.
-          let k = settled costs p room cost held tally (s .best) best′ room′ shown x in
-          rw (node-met child (hallOf costs codes starts m) p (bestOf (s .best) room) (rw g at f)) (went costs best′ room′ (k .0) (k .1));
+          let k = settled costs p bestPlan cost held tally (s .best) best′ bestPlan′ shown x in
+          rw (node-met child (hallOf costs codes starts m) p (bestOf (s .best) bestPlan) (rw g at f)) (went costs best′ bestPlan′ (k .0) (k .1));
     }
 
     module _ (u : Unmet) (r : ℕ) (f : FirstUnmet codes starts m p u) (g : u ≡ Rule r) (t : Bool) (closed : t ≡ isClosed (s .best) cost held) where
       found : UnmetAt codes starts m p r
       found = rw g at f
 
-      shut-is : (costs : List ℕ) → Tally costs p cost held → Shown costs (s .best) room → shut (hallOf costs codes starts m) p (bestOf (s .best) room) ≡ t
-      unfolding shut
-      shut-is costs tally shown = sym (closes-is costs p room cost held tally (s .best) shown) ∙ sym closed
+      shut-is : (costs : List ℕ) → Tally costs p cost held → Shown costs (s .best) bestPlan → shut (hallOf costs codes starts m) p (bestOf (s .best) bestPlan) ≡ t
+      shut-is costs tally shown = sym (closed-is costs p bestPlan cost held tally (hallOf costs codes starts m) refl (s .best) shown) ∙ sym closed
 
-      pub opened-shut : t ≡ true → Opens codes starts m p room s cost held (Leaf (record { meter = next; best = s .best })) room
+      pub opened-shut : t ≡ true → Opens codes starts m p bestPlan s cost held (Leaf (record { meter = next; best = s .best })) bestPlan
       opened-shut h = record {
         opened = λ costs tally shown child.
-            rw (node-shut child (hallOf costs codes starts m) p (bestOf (s .best) room) (found .unmet) (shut-is costs tally shown ∙ h)) (went costs (s .best) room refl shown);
+            rw (node-shut child (hallOf costs codes starts m) p (bestOf (s .best) bestPlan) (found .unmet) (shut-is costs tally shown ∙ h)) (went costs (s .best) bestPlan refl shown);
       }
 
-      pub opened-branch : t ≡ false → Opens codes starts m p room s cost held (Branch r (record { meter = next; best = s .best })) room
+      pub opened-branch : t ≡ false → Opens codes starts m p bestPlan s cost held (Branch r (record { meter = next; best = s .best })) bestPlan
       opened-branch h = record {
         opened = λ costs tally shown. record {
-          went = went costs (s .best) room refl shown;
+          went = went costs (s .best) bestPlan refl shown;
           below = found .below;
-          rest = λ child. node-branches child (hallOf costs codes starts m) p (bestOf (s .best) room) (found .unmet) (shut-is costs tally shown ∙ h) (found .first);
+          rest = λ child. node-branches child (hallOf costs codes starts m) p (bestOf (s .best) bestPlan) (found .unmet) (shut-is costs tally shown ∙ h) (found .first);
         };
       }

@@ -31,7 +31,7 @@ module _ {costs codes starts : List ℕ} {m budget : ℕ} {p best room : List �
   first-node = rw e (record {
     loaded = q .solvable .loaded;
     same-plan = ap length (q .free) ∙ length-replicate (length costs) 0;
-    same-room = q .same-best;
+    same-best = q .same-best;
     tally = rw (q .free) (record { cost-is = sym (start-cost costs (length costs)); held-is = sym (start-held (length costs)) });
     shown = λ (h : false ≡ true). let z : _≡_ {A = ℕ} 0 1 = cc in absurd (omega arith);
     budgeted = zero-le;

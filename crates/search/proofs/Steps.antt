@@ -16,6 +16,7 @@ use Rattle.hall.specs.Walk.{Best, Walked, Walker, still, after, through, openin
 use Rattle.hall.proofs.Plans.{hold-held, hold-length, held-all}
 use Rattle.hall.proofs.Sums.{cost-most}
 use Rattle.hall.proofs.Walks.{walks-on}
+use Rattle.hall.proofs.Bound.{node-one}
 use Rattle.sheet.specs.Coded.{entryOf, entriesOf, hallOf}
 use Rattle.search.specs.declared.meter.Meter.{Meter}
 use Rattle.search.specs.declared.node.State.{State}
@@ -32,7 +33,7 @@ use Rattle.search.proofs.Codes.{device-of, release-hold}
 use Rattle.search.proofs.Costs.{hold-cost, cost-at-most}
 use Rattle.search.proofs.Unmet.{rule-entries, entries-one}
 use Rattle.search.proofs.Ends.{still-budgeted, ends-then}
-use Rattle.search.proofs.Nodes.{node-opens, through-held, through-free}
+use Rattle.search.proofs.Nodes.{through-held, through-free}
 
 -- ── the measure: the free devices, and behind them the entries left; a rule has at most 32, and 33 stands for a plan ──
 abbrev pub remaining : Plan → ℕ → ℕ
@@ -46,11 +47,11 @@ falls-child p₀ p held code left t e free holds now =
     omega (arith, held-all held, ap heldOf e)
 
 -- ── what a node hands on ──
-module _ {costs codes starts : List ℕ} {m : ℕ} {p room : Plan} {s : State} {cost held : ℕ} (n : Node costs codes starts m p room s cost held) where
-  pub openable : Openable codes starts m p room s
+module _ {costs codes starts : List ℕ} {m : ℕ} {p bestPlan : Plan} {s : State} {cost held : ℕ} (n : Node costs codes starts m p bestPlan s cost held) where
+  pub openable : Openable codes starts m p bestPlan s
   openable = record {
     tested = record { laid = rw (n .same-plan) (n .loaded .laid); short = n .loaded .short; count = n .loaded .count };
-    same-room = n .same-room ∙ sym (n .same-plan);
+    same-best = n .same-best ∙ sym (n .same-plan);
     budgeted = n .budgeted;
   }
 
@@ -68,17 +69,17 @@ module _ {costs codes starts : List ℕ} {m : ℕ} {p room : Plan} {s : State} {
       let few = n .loaded .devices in
       omega (arith, cost-most 1000000000 costs (n .loaded .cheap) p, cost-at-most 1000000000 costs (n .loaded .cheap) d)
 
-  pub next-node : {mt : Meter} {w : Walked} {next : State} {p′ room′ : Plan} → p′ ≡ p → length room′ ≡ length room → WentOn costs mt w next room′ → Node costs codes starts m p′ room′ next cost held
+  pub next-node : {mt : Meter} {w : Walked} {next : State} {p′ bestPlan′ : Plan} → p′ ≡ p → length bestPlan′ ≡ length bestPlan → WentOn costs mt w next bestPlan′ → Node costs codes starts m p′ bestPlan′ next cost held
   next-node e l x = record {
     loaded = n .loaded;
     same-plan = ap length e ∙ n .same-plan;
-    same-room = l ∙ n .same-room;
+    same-best = l ∙ n .same-best;
     tally = rw e (n .tally);
     shown = x .shown;
     budgeted = still-budgeted x;
   }
 
-  pub child-node : {p′ : Plan} (code : ℕ) {more : ℕ} → isFree p (entryOf code) ≡ true → p′ ≡ hold p (entryOf code) → more ≡ getD costs (code / 2) 0 → Node costs codes starts m p′ room s (cost + more) (held + 1)
+  pub child-node : {p′ : Plan} (code : ℕ) {more : ℕ} → isFree p (entryOf code) ≡ true → p′ ≡ hold p (entryOf code) → more ≡ getD costs (code / 2) 0 → Node costs codes starts m p′ bestPlan s (cost + more) (held + 1)
   child-node {p′} code {more} free e k =
       let a = n .tally .cost-is in
       let b = n .tally .held-is in
@@ -87,7 +88,7 @@ module _ {costs codes starts : List ℕ} {m : ℕ} {p room : Plan} {s : State} {
       record {
         loaded = n .loaded;
         same-plan = ap length e ∙ hold-length p (entryOf code) ∙ n .same-plan;
-        same-room = n .same-room;
+        same-best = n .same-best;
         tally = record { cost-is = omega arith; held-is = omega arith };
         shown = n .shown;
         budgeted = n .budgeted;
@@ -112,26 +113,26 @@ module _ {n : ℕ} {codes : List ℕ} {at left : ℕ} (x : Entries n codes at le
 same-walked : {n k : ℕ} {b : Best} → n ≡ k → _≡_ {A = Walked} (record { opened = n; best = b }) (record { opened = k; best = b })
 same-walked {b = b} e = ap (λ (k : ℕ). record { opened = k; best = b }) e
 
--- the loop's invariant: of a walk through the entries from at₀ on, which began with the plan p₀, the best room₀ and the state s₀,
+-- the loop's invariant: of a walk through the entries from at₀ on, which began with the plan p₀, the best plan bestPlan₀ and the state s₀,
 -- `part` is done and the entries from `at` on are left; the plan is as it was
-pub record Partway (costs codes starts : List ℕ) (m : ℕ) (child : Walker) (at₀ left₀ : ℕ) (p₀ room₀ : Plan) (s₀ : State) (cost held at left : ℕ) (p room : Plan) (s : State) : Type 0 where
+pub record Partway (costs codes starts : List ℕ) (m : ℕ) (child : Walker) (at₀ left₀ : ℕ) (p₀ bestPlan₀ : Plan) (s₀ : State) (cost held at left : ℕ) (p bestPlan : Plan) (s : State) : Type 0 where
   pub as-was : p ≡ p₀
-  pub same-long : length room ≡ length room₀
-  pub here : AtEntries costs codes starts m at left p room s cost held
+  pub same-long : length bestPlan ≡ length bestPlan₀
+  pub here : AtEntries costs codes starts m at left p bestPlan s cost held
   pub part : Walked
-  pub went : WentOn costs (s₀ .meter) part s room
-  pub rest : through child p₀ (entriesOf codes at₀ left₀) (bestOf (s₀ .best) room₀) ≡ after part (through child p₀ (entriesOf codes at left) (part .best))
+  pub went : WentOn costs (s₀ .meter) part s bestPlan
+  pub rest : through child p₀ (entriesOf codes at₀ left₀) (bestOf (s₀ .best) bestPlan₀) ≡ after part (through child p₀ (entriesOf codes at left) (part .best))
 
-pub reached-none : {costs codes starts : List ℕ} {m : ℕ} (child : Walker) {at left : ℕ} {p room : Plan} {s : State} {cost held : ℕ} → AtEntries costs codes starts m at left p room s cost held →
-    Partway costs codes starts m child at left p room s cost held at left p room s
+pub reached-none : {costs codes starts : List ℕ} {m : ℕ} (child : Walker) {at left : ℕ} {p bestPlan : Plan} {s : State} {cost held : ℕ} → AtEntries costs codes starts m at left p bestPlan s cost held →
+    Partway costs codes starts m child at left p bestPlan s cost held at left p bestPlan s
 unfolding still after
-reached-none child {at} {left} {p} {room} {s} x =
+reached-none child {at} {left} {p} {bestPlan} {s} x =
     let budgeted = x .node .budgeted in
     record {
       as-was = refl;
       same-long = refl;
       here = x;
-      part = still (bestOf (s .best) room);
+      part = still (bestOf (s .best) bestPlan);
       went = record {
         within = omega arith;
         meter = ap (λ (k : ℕ). record { budget = s .meter .budget; count = k }) (omega arith);
@@ -141,12 +142,12 @@ reached-none child {at} {left} {p} {room} {s} x =
       rest = same-walked (omega arith);
     }
 
-module _ {costs codes starts : List ℕ} {m : ℕ} {child : Walker} {at₀ left₀ : ℕ} {p₀ room₀ : Plan} {s₀ : State} {cost held at left : ℕ} {p room : Plan} {s : State}
-    (x : Partway costs codes starts m child at₀ left₀ p₀ room₀ s₀ cost held at left p room s) where
+module _ {costs codes starts : List ℕ} {m : ℕ} {child : Walker} {at₀ left₀ : ℕ} {p₀ bestPlan₀ : Plan} {s₀ : State} {cost held at left : ℕ} {p bestPlan : Plan} {s : State}
+    (x : Partway costs codes starts m child at₀ left₀ p₀ bestPlan₀ s₀ cost held at left p bestPlan s) where
   abbrev all : Walked
-  all = through child p₀ (entriesOf codes at₀ left₀) (bestOf (s₀ .best) room₀)
+  all = through child p₀ (entriesOf codes at₀ left₀) (bestOf (s₀ .best) bestPlan₀)
 
-  pub walked-all : left ≤ 0 → Walks costs (s₀ .meter) all p₀ p (On s) room
+  pub walked-all : left ≤ 0 → Walks costs (s₀ .meter) all p₀ p (On s) bestPlan
   unfolding entriesOf through still after
   walked-all l =
       let none : left ≡ 0 = omega arith in
@@ -158,7 +159,7 @@ module _ {costs codes starts : List ℕ} {m : ℕ} {child : Walker} {at₀ left�
     first = entries-one codes at left (λ (z : left ≡ 0). omega arith) ∙ rw e refl
 
     -- an entry whose device is held opens nothing
-    pub passed-held : isFree p (entryOf code) ≡ false → Partway costs codes starts m child at₀ left₀ p₀ room₀ s₀ cost held (at + 1) (left - 1) p room s
+    pub passed-held : isFree p (entryOf code) ≡ false → Partway costs codes starts m child at₀ left₀ p₀ bestPlan₀ s₀ cost held (at + 1) (left - 1) p bestPlan s
     passed-held taken = record {
       as-was = x .as-was;
       same-long = x .same-long;
@@ -169,20 +170,20 @@ module _ {costs codes starts : List ℕ} {m : ℕ} {child : Walker} {at₀ left�
     }
 
 -- an entry whose device is free: it was held, the child walked, and the device released
-pub record Tried (costs : List ℕ) (child : Walker) (p room : Plan) (s : State) (code : ℕ) (held held′ back room′ : Plan) (went : Went) : Type 0 where
+pub record Tried (costs : List ℕ) (child : Walker) (p bestPlan : Plan) (s : State) (code : ℕ) (held held′ back bestPlan′ : Plan) (went : Went) : Type 0 where
   pub free : isFree p (entryOf code) ≡ true
   pub holds : held ≡ hold p (entryOf code)
-  pub walked : Walks costs (s .meter) (child held (bestOf (s .best) room)) held held′ went room′
+  pub walked : Walks costs (s .meter) (child held (bestOf (s .best) bestPlan)) held held′ went bestPlan′
   pub releases : back ≡ release held′ (entryOf code)
 
-module _ {costs codes starts : List ℕ} {m : ℕ} {child : Walker} {at₀ left₀ : ℕ} {p₀ room₀ : Plan} {s₀ : State} {cost number at left : ℕ} {p room : Plan} {s : State} {code : ℕ} {held held′ back room′ : Plan} {went : Went}
-    (x : Partway costs codes starts m child at₀ left₀ p₀ room₀ s₀ cost number at left p room s) (more : 0 < left) (e : code ≡ getD codes at 0)
-    (y : Tried costs child p room s code held held′ back room′ went) where
+module _ {costs codes starts : List ℕ} {m : ℕ} {child : Walker} {at₀ left₀ : ℕ} {p₀ bestPlan₀ : Plan} {s₀ : State} {cost number at left : ℕ} {p bestPlan : Plan} {s : State} {code : ℕ} {held held′ back bestPlan′ : Plan} {went : Went}
+    (x : Partway costs codes starts m child at₀ left₀ p₀ bestPlan₀ s₀ cost number at left p bestPlan s) (more : 0 < left) (e : code ≡ getD codes at 0)
+    (y : Tried costs child p bestPlan s code held held′ back bestPlan′ went) where
   pub back-as-was : back ≡ p
   back-as-was = y .releases ∙ rw (y .walked .same, y .holds) (release-hold p (entryOf code) (y .free))
 
   abbrev walk : Walked
-  walk = child held (bestOf (s .best) room)
+  walk = child held (bestOf (s .best) bestPlan)
 
   abbrev tail : Walked
   tail = through child p₀ (entriesOf codes (at + 1) (left - 1)) (walk .best)
@@ -191,53 +192,53 @@ module _ {costs codes starts : List ℕ} {m : ℕ} {child : Walker} {at₀ left�
   parts =
       x .rest
       ∙ ap (after (x .part))
-      (rw (first x more e, ← x .went .best, y .holds, x .as-was) (through-free child p₀ (entryOf code) _ (bestOf (s .best) room) (rw (x .as-was) at (y .free))))
+      (rw (first x more e, ← x .went .best, y .holds, x .as-was) (through-free child p₀ (entryOf code) _ (bestOf (s .best) bestPlan) (rw (x .as-was) at (y .free))))
 
-  pub tried-spent : (end : Meter) → went ≡ Spent end → Walks costs (s₀ .meter) (all x) p₀ back (Spent end) room′
+  pub tried-spent : (end : Meter) → went ≡ Spent end → Walks costs (s₀ .meter) (all x) p₀ back (Spent end) bestPlan′
   unfolding after
   tried-spent end f =
-      let o : IsSpent (s₀ .meter) (after (x .part) walk) end = ends-then (x .went) walk (Spent end) room′ (rw f at (y .walked .ends)) in
+      let o : IsSpent (s₀ .meter) (after (x .part) walk) end = ends-then (x .went) walk (Spent end) bestPlan′ (rw f at (y .walked .ends)) in
       let u = o .over in
       rw parts (record { same = back-as-was ∙ x .as-was; ends = record { over = omega arith; count = o .count } })
 
-  pub tried-on : (next : State) → went ≡ On next → length room′ ≡ length room → Partway costs codes starts m child at₀ left₀ p₀ room₀ s₀ cost number (at + 1) (left - 1) back room′ next
+  pub tried-on : (next : State) → went ≡ On next → length bestPlan′ ≡ length bestPlan → Partway costs codes starts m child at₀ left₀ p₀ bestPlan₀ s₀ cost number (at + 1) (left - 1) back bestPlan′ next
   unfolding after
   tried-on next f l =
-      let on : WentOn costs (s .meter) walk next room′ = rw f at (y .walked .ends) in
+      let on : WentOn costs (s .meter) walk next bestPlan′ = rw f at (y .walked .ends) in
       record {
         as-was = back-as-was ∙ x .as-was;
         same-long = l ∙ x .same-long;
         here = record { node = next-node (x .here .node) back-as-was l on; entries = rw back-as-was (next-entries (x .here .entries) more) };
         part = after (x .part) walk;
-        went = ends-then (x .went) walk (On next) room′ on;
+        went = ends-then (x .went) walk (On next) bestPlan′ on;
         rest = parts ∙ same-walked (omega arith);
       }
 
 -- ── a node that was opened ──
-module _ {costs codes starts : List ℕ} {m : ℕ} {p room : Plan} {s : State} {cost held : ℕ} {o : Opening} {room′ : Plan}
-    (n : Node costs codes starts m p room s cost held) (x : Opens codes starts m p room s cost held o room′) where
+module _ {costs codes starts : List ℕ} {m : ℕ} {p bestPlan : Plan} {s : State} {cost held : ℕ} {o : Opening} {bestPlan′ : Plan}
+    (n : Node costs codes starts m p bestPlan s cost held) (x : Opens codes starts m p bestPlan s cost held o bestPlan′) where
   abbrev h : Hall
   h = hallOf costs codes starts m
 
   abbrev b : Best
-  b = bestOf (s .best) room
+  b = bestOf (s .best) bestPlan
 
-  opened-as : OpenedAs h codes starts m p b (s .meter) o room′
+  opened-as : OpenedAs h codes starts m p b (s .meter) o bestPlan′
   opened-as = x .opened costs (n .tally) (n .shown)
 
-  pub walked-stopped : (end : Meter) (room″ : Plan) → o ≡ Stopped end → Walks costs (s .meter) (walkFrom h p b) p p (Spent end) room″
+  pub walked-stopped : (end : Meter) (bestPlan″ : Plan) → o ≡ Stopped end → Walks costs (s .meter) (walkFrom h p b) p p (Spent end) bestPlan″
   unfolding opening still
-  walked-stopped end room″ e =
+  walked-stopped end bestPlan″ e =
       let a : IsSpent (s .meter) (alone b) end = rw e at opened-as in
       let u = a .over in
-      let w = node-opens (walkFrom h) h p b in
+      let w = node-one (walkFrom h) h p b in
       rw (walks-on h p b) (record { same = refl; ends = record { over = omega arith; count = a .count } })
 
-  pub walked-leaf : (next : State) → o ≡ Leaf next → Walks costs (s .meter) (walkFrom h p b) p p (On next) room′
+  pub walked-leaf : (next : State) → o ≡ Leaf next → Walks costs (s .meter) (walkFrom h p b) p p (On next) bestPlan′
   walked-leaf next e = rw (walks-on h p b) (record { same = refl; ends = (rw e at opened-as) (walkFrom h) })
 
   module _ (r : ℕ) (next : State) (e : o ≡ Branch r next) where
-    branches : Branches h codes starts m p b (s .meter) r next room′
+    branches : Branches h codes starts m p b (s .meter) r next bestPlan′
     branches = rw e at opened-as
 
     pub branch-rule : r + 1 ≤ 2000
@@ -253,13 +254,13 @@ module _ {costs codes starts : List ℕ} {m : ℕ} {p room : Plan} {s : State} {
       pub branch-falls : {t : ℕ} → remaining p 33 ≡ t → remaining p (end - at) < t
       branch-falls now = let l = entries .narrow in omega arith
 
-      pub branch-entries : length room′ ≡ length room → AtEntries costs codes starts m at (end - at) p room′ next cost held
+      pub branch-entries : length bestPlan′ ≡ length bestPlan → AtEntries costs codes starts m at (end - at) p bestPlan′ next cost held
       branch-entries l = record { node = next-node n refl l (branches .went); entries = entries }
 
-      pub walked-branch : {p′ : Plan} {went : Went} {room″ : Plan} →
-          Walks costs (next .meter) (through (walkFrom h) p (entriesOf codes at (end - at)) (bestOf (next .best) room′)) p p′ went room″ →
-          Walks costs (s .meter) (walkFrom h p b) p p′ went room″
+      pub walked-branch : {p′ : Plan} {went : Went} {bestPlan″ : Plan} →
+          Walks costs (next .meter) (through (walkFrom h) p (entriesOf codes at (end - at)) (bestOf (next .best) bestPlan′)) p p′ went bestPlan″ →
+          Walks costs (s .meter) (walkFrom h p b) p p′ went bestPlan″
       unfolding opening still
-      walked-branch {p′} {went} {room″} y =
+      walked-branch {p′} {went} {bestPlan″} y =
           rw (walks-on h p b, branches .rest (walkFrom h))
-          (record { same = y .same; ends = ends-then (branches .went) _ went room″ (rw (from, to, branches .went .best) at (y .ends)) })
+          (record { same = y .same; ends = ends-then (branches .went) _ went bestPlan″ (rw (from, to, branches .went .best) at (y .ends)) })

@@ -1,16 +1,19 @@
 -- The rules in the coded arrays, and the two loops of the rule test.
 --
 -- In order: where a rule lies (`ends-within`, `named-at`, `rule-entries`); one entry and one rule taken off the front (`entries-one`,
--- `rules-one`); the inner loop, over the entries of a rule (`Untested`: what the entries left say is what the rule says); the outer
--- loop, over the rules (`Passed`: what the rules left say is what all say). Assumes nothing.
+-- `rules-one`); the inner loop, over the entries of a rule (`Untested`: none that was tested is held), by the laws of meeting a rule;
+-- the outer loop, over the rules (`Passed`: what the rules left say is what all say). Assumes nothing.
 use mathlib.Core.Path.{_≡_, refl, sym, _∙_}
-use mathlib.Core.Bool.{true, false, _||_}
+use mathlib.Core.Bool.{true, false}
 use mathlib.Core.List.{List, _∷_}
 use Prim.Native.Nat.{ℕ, zero, suc, _+_, _-_, _/_, _≤_, _<_}
 use native.Mathlib.Omega.{arith}
 use native.Mathlib.Numerals.{sub-one}
 use lib.ListN.{getD}
-use Rattle.hall.specs.Hall.{Plan, holds, meetsRule, meetsAll, firstUnmet}
+use Rattle.lists.specs.Lists.{Each}
+use Rattle.lists.proofs.Cases.{Tri, below as lower, level, above, tri}
+use Rattle.hall.specs.Hall.{Entry, Plan, holds, meetsRule, meetsAll, firstUnmet}
+use Rattle.hall.proofs.Rules.{In, first, later, held-meets, unheld-unmet}
 use Rattle.sheet.specs.Coded.{entryOf, entriesOf, ruleOf, rulesOf, Laid}
 use Rattle.search.specs.Rules.{UnmetAt}
 use Rattle.search.specs.Walk.{Entries}
@@ -49,25 +52,43 @@ unfolding rulesOf
 rules-one codes starts r zero more = absurd (more refl)
 rules-one codes starts r (suc left) more = rw sub-one refl
 
--- ── the inner loop: the entries of rule r from place i to the rule's end are still to be tested, and none before i is held ──
+-- ── the inner loop: no entry of rule r before place i is held, whichever way they are gone through ──
+-- a property of each entry of a rule, place by place; and an entry of the rule, by its place
+each-entry : (P : Entry → Type 0) (codes : List ℕ) (at left : ℕ) → ((i : ℕ) → at ≤ i → i < at + left → P (entryOf (getD codes i 0))) → Each P (entriesOf codes at left)
+unfolding entriesOf
+each-entry P codes at zero f = tt
+each-entry P codes at (suc left) f = (f at (omega arith) (omega arith), each-entry P codes (at + 1) left (λ i from to. f i (omega arith) (omega arith)))
+
+entry-in : (codes : List ℕ) (at left i : ℕ) → at ≤ i → i < at + left → In (entryOf (getD codes i 0)) (entriesOf codes at left)
+unfolding entriesOf
+entry-in codes at zero i from to = absurd (omega arith)
+entry-in codes at (suc left) i from to = go (tri at i) (λ l. entry-in codes (at + 1) left i (omega arith) (omega arith))
+  where
+    go : Tri at i → (at < i → In (entryOf (getD codes i 0)) (entriesOf codes (at + 1) left)) → In (entryOf (getD codes i 0)) (entryOf (getD codes at 0) ∷ entriesOf codes (at + 1) left)
+    go (lower l) ih = later (ih l)
+    go (level e) ih = rw e first
+    go (above l) ih = absurd (omega arith)
+
 pub record Untested (codes starts : List ℕ) (p : Plan) (r end i : ℕ) : Type 0 where
+  pub ends : end ≡ getD starts (r + 1) 0
+  pub from : getD starts r 0 ≤ i
   pub inside : i ≤ end
-  pub same : meetsRule p (entriesOf codes i (end - i)) ≡ meetsRule p (ruleOf codes starts r)
+  pub missed : (j : ℕ) → getD starts r 0 ≤ j → j < i → holds p (entryOf (getD codes j 0)) ≡ false
 
 module _ {codes starts : List ℕ} {p : Plan} {r end i : ℕ} (x : Untested codes starts p r end i) where
-  one : i < end → meetsRule p (entriesOf codes i (end - i)) ≡ (holds p (entryOf (getD codes i 0)) || meetsRule p (entriesOf codes (i + 1) (end - (i + 1))))
-  unfolding meetsRule
-  one l = let e : end - i - 1 ≡ end - (i + 1) = omega arith in rw (entries-one codes i (end - i) (λ (z : end - i ≡ 0). omega arith), e) refl
-
   pub rule-unmet : end ≤ i → meetsRule p (ruleOf codes starts r) ≡ false
-  unfolding entriesOf meetsRule
-  rule-unmet l = let e : end - i ≡ 0 = omega arith in sym (x .same) ∙ rw e refl
+  rule-unmet l = unheld-unmet p (ruleOf codes starts r) (each-entry (λ e. holds p e ≡ false) codes _ _ (λ j from to. let e = x .ends in let f = x .from in x .missed j from (omega arith)))
 
   pub rule-met : i < end → holds p (entryOf (getD codes i 0)) ≡ true → meetsRule p (ruleOf codes starts r) ≡ true
-  rule-met l hit = sym (x .same) ∙ one l ∙ rw hit refl
+  rule-met l hit = let e = x .ends in let f = x .from in held-meets p _ (ruleOf codes starts r) (entry-in codes _ _ i f (omega arith)) hit
 
   pub tested-one : i < end → holds p (entryOf (getD codes i 0)) ≡ false → Untested codes starts p r end (i + 1)
-  tested-one l miss = record { inside = omega arith; same = sym (one l ∙ rw miss refl) ∙ x .same }
+  tested-one l miss = let f = x .from in record { ends = x .ends; from = omega arith; inside = omega arith; missed = λ j from to. go j from (tri j i) to }
+    where
+      go : (j : ℕ) → getD starts r 0 ≤ j → Tri j i → j < i + 1 → holds p (entryOf (getD codes j 0)) ≡ false
+      go j from (lower u) to = x .missed j from u
+      go j from (level u) to = rw u miss
+      go j from (above u) to = absurd (omega arith)
 
 -- ── the outer loop: every rule before r is met, and rule r starts here ──
 pub record Passed (codes starts : List ℕ) (m : ℕ) (p : Plan) (r start : ℕ) : Type 0 where
@@ -98,7 +119,7 @@ module _ {codes starts : List ℕ} {m : ℕ} {p : Plan} {r start : ℕ} (x : Pas
     untested laid e =
         let a = laid .rise r below in
         let b = x .here in
-        record { inside = omega arith; same = rw (e, b) refl }
+        record { ends = e; from = omega arith; inside = omega arith; missed = λ j from to. absurd (omega arith) }
 
     pub passed-one : {end : ℕ} → end ≡ getD starts (r + 1) 0 → meetsRule p (ruleOf codes starts r) ≡ true → Passed codes starts m p (r + 1) end
     unfolding meetsAll firstUnmet

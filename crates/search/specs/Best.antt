@@ -1,7 +1,7 @@
--- The best so far, of its numbers and its room, and steps 1 and 2 on these numbers. 01, "The walk".
+-- The best so far, of its numbers and its plan, and steps 1 and 2 on these numbers. 01, "The walk".
 --
--- In order: a plan's numbers; the best so far that its room shows; step 1; step 2. Here and in Ends, Node and Walk `room` is the room
--- of the best plan so far. Definitions only.
+-- In order: a plan's numbers; the best so far; step 1; step 2. Here and in Ends, Node and Walk `bestPlan` is what lies in the room that
+-- is lent for the best plan so far. Definitions only.
 use mathlib.Core.Path.{_≡_}
 use mathlib.Core.Bool.{Bool, true, false, cond}
 use mathlib.Core.List.{List, [], _∷_}
@@ -16,22 +16,22 @@ pub record Tally (costs : List ℕ) (p : Plan) (cost held : ℕ) : Type 0 where
   pub cost-is : cost ≡ costOf costs p
   pub held-is : held ≡ heldOf p
 
--- the best so far: what lies in the room, where one was found
+-- the best so far: what lies in its room, where one was found
 abbrev pub bestOf : BestSoFar → Plan → Best
-bestOf best room = cond (best .found) (soFar room) noneYet
+bestOf best bestPlan = cond (best .found) (soFar bestPlan) noneYet
 
--- the numbers are those of the plan in the room, where one was found
+-- the numbers are those of the plan that lies there, where one was found
 abbrev pub Shown : List ℕ → BestSoFar → Plan → Type 0
-Shown costs best room = best .found ≡ true → Tally costs room (best .cost) (best .held)
+Shown costs best bestPlan = best .found ≡ true → Tally costs bestPlan (best .cost) (best .held)
 
 -- step 1: "if there is none or it is better"
 abbrev pub isBetter : BestSoFar → Plan → Plan → ℕ → ℕ → Bool
-isBetter best room p cost held = cond (best .found) (less (cost ∷ held ∷ p) (best .cost ∷ best .held ∷ room)) true
+isBetter best bestPlan p cost held = cond (best .found) (less (cost ∷ held ∷ p) (best .cost ∷ best .held ∷ bestPlan)) true
 
 -- step 1: "it becomes the best so far"
-pub record Settles (best : BestSoFar) (room p : Plan) (cost held : ℕ) (best′ : BestSoFar) (room′ : Plan) : Type 0 where
-  pub numbers : best′ ≡ cond (isBetter best room p cost held) (record { found = true; cost = cost; held = held }) best
-  pub written : room′ ≡ cond (isBetter best room p cost held) p room
+pub record Settles (best : BestSoFar) (bestPlan p : Plan) (cost held : ℕ) (best′ : BestSoFar) (bestPlan′ : Plan) : Type 0 where
+  pub numbers : best′ ≡ cond (isBetter best bestPlan p cost held) (record { found = true; cost = cost; held = held }) best
+  pub written : bestPlan′ ≡ cond (isBetter best bestPlan p cost held) p bestPlan
 
 -- step 2: "the node's cost is above the best's, or the costs are equal and the node's held number plus 1 is above the best's"
 abbrev pub isClosed : BestSoFar → ℕ → ℕ → Bool

@@ -15,12 +15,12 @@ use Rattle.search.specs.declared.walk.Went.the-variants.{On, Spent}
 use Rattle.search.specs.Meter.{counted}
 use Rattle.search.specs.Best.{bestOf, Shown}
 
--- the nodes of w are within the budget: exactly they are counted, and the best of w is shown in the room
-pub record WentOn (costs : List ℕ) (mt : Meter) (w : Walked) (next : State) (room : Plan) : Type 0 where
+-- the nodes of w are within the budget: exactly they are counted, and the best of w lies in its room
+pub record WentOn (costs : List ℕ) (mt : Meter) (w : Walked) (next : State) (bestPlan : Plan) : Type 0 where
   pub within : mt .count + w .opened ≤ mt .budget
   pub meter : next .meter ≡ counted (w .opened) mt
-  pub best : bestOf (next .best) room ≡ w .best
-  pub shown : Shown costs (next .best) room
+  pub best : bestOf (next .best) bestPlan ≡ w .best
+  pub shown : Shown costs (next .best) bestPlan
 
 -- they are not: the count stands at the budget
 pub record IsSpent (mt : Meter) (w : Walked) (end : Meter) : Type 0 where
@@ -29,5 +29,5 @@ pub record IsSpent (mt : Meter) (w : Walked) (end : Meter) : Type 0 where
 
 -- from the meter mt, the walk w ended so
 abbrev pub Ends : List ℕ → Meter → Walked → Went → Plan → Type 0
-Ends costs mt w (On next) room = WentOn costs mt w next room
-Ends costs mt w (Spent end) room = IsSpent mt w end
+Ends costs mt w (On next) bestPlan = WentOn costs mt w next bestPlan
+Ends costs mt w (Spent end) bestPlan = IsSpent mt w end

@@ -16,10 +16,10 @@ use Rattle.search.specs.Rules.{Tested}
 use Rattle.search.specs.Best.{Tally, bestOf, Shown}
 use Rattle.search.specs.Ends.{WentOn, IsSpent}
 
--- what a node is opened under: `room` has the best plan so far
-pub record Openable (codes starts : List ℕ) (m : ℕ) (p room : Plan) (s : State) : Type 0 where
+-- what a node is opened under
+pub record Openable (codes starts : List ℕ) (m : ℕ) (p bestPlan : Plan) (s : State) : Type 0 where
   pub tested : Tested codes starts m p
-  pub same-room : length room ≡ length p
+  pub same-best : length bestPlan ≡ length p
   pub budgeted : s .meter .count ≤ s .meter .budget
 
 -- the node alone, before its entries
@@ -27,18 +27,18 @@ abbrev pub alone : Best → Walked
 alone b = opening (still b)
 
 -- a node was opened, and what is left of it is to go through the entries of rule r
-pub record Branches (h : Hall) (codes starts : List ℕ) (m : ℕ) (p : Plan) (b : Best) (mt : Meter) (r : ℕ) (next : State) (room : Plan) : Type 0 where
-  pub went : WentOn (h .costs) mt (alone b) next room
+pub record Branches (h : Hall) (codes starts : List ℕ) (m : ℕ) (p : Plan) (b : Best) (mt : Meter) (r : ℕ) (next : State) (bestPlan : Plan) : Type 0 where
+  pub went : WentOn (h .costs) mt (alone b) next bestPlan
   pub below : r < m
   pub rest : (child : Walker) → node child h p b ≡ after (alone b) (through child p (ruleOf codes starts r) b)
 
 -- there was no budget for the node; or its walk is done; or it branches
 abbrev pub OpenedAs : Hall → List ℕ → List ℕ → ℕ → Plan → Best → Meter → Opening → Plan → Type 0
-OpenedAs h codes starts m p b mt (Stopped end) room = IsSpent mt (alone b) end
-OpenedAs h codes starts m p b mt (Leaf next) room = (child : Walker) → WentOn (h .costs) mt (node child h p b) next room
-OpenedAs h codes starts m p b mt (Branch r next) room = Branches h codes starts m p b mt r next room
+OpenedAs h codes starts m p b mt (Stopped end) bestPlan = IsSpent mt (alone b) end
+OpenedAs h codes starts m p b mt (Leaf next) bestPlan = (child : Walker) → WentOn (h .costs) mt (node child h p b) next bestPlan
+OpenedAs h codes starts m p b mt (Branch r next) bestPlan = Branches h codes starts m p b mt r next bestPlan
 
 -- so it is for whatever costs these are the numbers
-pub record Opens (codes starts : List ℕ) (m : ℕ) (p room : Plan) (s : State) (cost held : ℕ) (o : Opening) (room′ : Plan) : Type 0 where
-  pub opened : (costs : List ℕ) → Tally costs p cost held → Shown costs (s .best) room →
-      OpenedAs (hallOf costs codes starts m) codes starts m p (bestOf (s .best) room) (s .meter) o room′
+pub record Opens (codes starts : List ℕ) (m : ℕ) (p bestPlan : Plan) (s : State) (cost held : ℕ) (o : Opening) (bestPlan′ : Plan) : Type 0 where
+  pub opened : (costs : List ℕ) → Tally costs p cost held → Shown costs (s .best) bestPlan →
+      OpenedAs (hallOf costs codes starts m) codes starts m p (bestOf (s .best) bestPlan) (s .meter) o bestPlan′

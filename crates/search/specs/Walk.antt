@@ -1,19 +1,19 @@
 -- What the walk is called under, and what is kept of it. 01, "The walk".
 --
--- In order: a hall in the coded arrays, within the table's ranges; a node; entries of a rule; what a part of the walk leaves.
--- Definitions only.
+-- In order: a hall in the coded arrays, within the table's ranges; a node; entries of a rule; what a part of the walk leaves: of any
+-- part, of the walk of a plan, of the walk through entries. Definitions only.
 use mathlib.Core.Path.{_≡_}
 use mathlib.Core.List.{List}
 use Prim.Native.Nat.{ℕ, _+_, _/_, _≤_, _<_}
 use lib.ListN.{length, getD}
 use Rattle.hall.specs.Hall.{Plan}
 use Rattle.lists.specs.Lists.{Each}
-use Rattle.hall.specs.Walk.{Walked}
-use Rattle.sheet.specs.Coded.{Laid}
+use Rattle.hall.specs.Walk.{Walked, through, walkFrom}
+use Rattle.sheet.specs.Coded.{entriesOf, hallOf, Laid}
 use Rattle.search.specs.declared.meter.Meter.{Meter}
 use Rattle.search.specs.declared.node.State.{State}
 use Rattle.search.specs.declared.walk.Went.{Went}
-use Rattle.search.specs.Best.{Tally, Shown}
+use Rattle.search.specs.Best.{Tally, bestOf, Shown}
 use Rattle.search.specs.Ends.{Ends}
 
 -- a hall of m rules lies in the arrays, its codes in 16,384 places; "devices | 0 to 200", "a cost | 0 to 1,000,000,000",
@@ -25,13 +25,13 @@ pub record Loaded (costs codes starts : List ℕ) (m : ℕ) : Type 0 where
   pub cheap : Each (λ c. c ≤ 1000000000) costs
   pub count : m ≤ 2000
 
--- what a node is walked under: its plan p with the plan's numbers, the best so far with its room, and a meter within its budget
-pub record Node (costs codes starts : List ℕ) (m : ℕ) (p room : Plan) (s : State) (cost held : ℕ) : Type 0 where
+-- what a node is walked under: its plan p with the plan's numbers, the best so far with its plan, and a meter within its budget
+pub record Node (costs codes starts : List ℕ) (m : ℕ) (p bestPlan : Plan) (s : State) (cost held : ℕ) : Type 0 where
   pub loaded : Loaded costs codes starts m
   pub same-plan : length p ≡ length costs
-  pub same-room : length room ≡ length costs
+  pub same-best : length bestPlan ≡ length costs
   pub tally : Tally costs p cost held
-  pub shown : Shown costs (s .best) room
+  pub shown : Shown costs (s .best) bestPlan
   pub budgeted : s .meter .count ≤ s .meter .budget
 
 -- so many codes of devices below n stand from a place on, within the array and no more than a rule may have
@@ -41,11 +41,21 @@ pub record Entries (n : ℕ) (codes : List ℕ) (at left : ℕ) : Type 0 where
   pub named : (i : ℕ) → at ≤ i → i < at + left → getD codes i 0 / 2 < n
 
 -- what the entries of a node's rule are gone through under
-pub record AtEntries (costs codes starts : List ℕ) (m at left : ℕ) (p room : Plan) (s : State) (cost held : ℕ) : Type 0 where
-  pub node : Node costs codes starts m p room s cost held
+pub record AtEntries (costs codes starts : List ℕ) (m at left : ℕ) (p bestPlan : Plan) (s : State) (cost held : ℕ) : Type 0 where
+  pub node : Node costs codes starts m p bestPlan s cost held
   pub entries : Entries (length p) codes at left
 
 -- what is kept of a part w of the walk: the plan is as it was, and the code ended as w says
-pub record Walks (costs : List ℕ) (mt : Meter) (w : Walked) (p p′ : Plan) (went : Went) (room : Plan) : Type 0 where
+pub record Walks (costs : List ℕ) (mt : Meter) (w : Walked) (p p′ : Plan) (went : Went) (bestPlan : Plan) : Type 0 where
   pub same : p′ ≡ p
-  pub ends : Ends costs mt w went room
+  pub ends : Ends costs mt w went bestPlan
+
+-- what `walk_plan` leaves: the part is the walk from the plan, with the best so far
+abbrev pub WalksPlan : (costs codes starts : List ℕ) (m : ℕ) (p bestPlan : Plan) → State → Went → (p′ bestPlan′ : Plan) → Type 0
+WalksPlan costs codes starts m p bestPlan s went p′ bestPlan′ =
+    Walks costs (s .meter) (walkFrom (hallOf costs codes starts m) p (bestOf (s .best) bestPlan)) p p′ went bestPlan′
+
+-- what `walk_entries` leaves: the part is step 3 through so many entries from a place on
+abbrev pub WalksEntries : (costs codes starts : List ℕ) (m at left : ℕ) (p bestPlan : Plan) → State → Went → (p′ bestPlan′ : Plan) → Type 0
+WalksEntries costs codes starts m at left p bestPlan s went p′ bestPlan′ =
+    Walks costs (s .meter) (through (walkFrom (hallOf costs codes starts m)) p (entriesOf codes at left) (bestOf (s .best) bestPlan)) p p′ went bestPlan′

@@ -1,7 +1,7 @@
 // The walk. 01: "A node opens its entries, and each entry opens a node in turn": two functions in a cycle.
 //
 // A device is held before its child is walked and released behind it, so that one plan serves the whole walk. The entries of a rule
-// are a loop: a call for each of them in its place was slower and took more stack.
+// are a loop, so that the stack grows with the devices held and not with the entries.
 use crate::meter::Meter;
 use crate::node::Opening;
 use crate::node::State;
@@ -12,10 +12,7 @@ use crate::plan::is_free;
 use crate::plan::release;
 use crate::rules::code_at;
 use crate::rules::start_of;
-ghost use Rattle.hall.specs.Walk.{through, walkFrom};
-ghost use Rattle.sheet.specs.Coded.{entriesOf, hallOf};
-ghost use Rattle.search.specs.Best.{bestOf};
-ghost use Rattle.search.specs.Walk.{Node, AtEntries, Walks};
+ghost use Rattle.search.specs.Walk.{Node, AtEntries, WalksPlan, WalksEntries};
 
 // How a part of the walk ended.
 pub(crate) enum Went {
@@ -36,7 +33,7 @@ pub(crate) fn walk_plan(
     held: u32,
 ) -> Went
     requires { ⌜ Node (now costs) (now codes) (now starts) m (now plan) (now best) state cost held ⌝ }
-    ensures { λ r. ⌜ Walks (now (costs .entry)) (state .meter) (walkFrom (hallOf (now (costs .entry)) (now (codes .entry)) (now (starts .entry)) m) (now (plan .entry)) (bestOf (state .best) (now (best .entry)))) (now (plan .entry)) (now (plan .exit)) r (now (best .exit)) ⌝ }
+    ensures { λ r. ⌜ WalksPlan (now (costs .entry)) (now (codes .entry)) (now (starts .entry)) m (now (plan .entry)) (now (best .entry)) state r (now (plan .exit)) (now (best .exit)) ⌝ }
 {
     match open_node(codes, starts, m, plan, best, state, cost, held) {
         Opening::Stopped(end) => Went::Spent(end),
@@ -76,7 +73,7 @@ fn walk_entries(
     held: u32,
 ) -> Went
     requires { ⌜ AtEntries (now costs) (now codes) (now starts) m at left (now plan) (now best) state cost held ⌝ }
-    ensures { λ r. ⌜ Walks (now (costs .entry)) (state .meter) (through (walkFrom (hallOf (now (costs .entry)) (now (codes .entry)) (now (starts .entry)) m)) (now (plan .entry)) (entriesOf (now (codes .entry)) at left) (bestOf (state .best) (now (best .entry)))) (now (plan .entry)) (now (plan .exit)) r (now (best .exit)) ⌝ }
+    ensures { λ r. ⌜ WalksEntries (now (costs .entry)) (now (codes .entry)) (now (starts .entry)) m at left (now (plan .entry)) (now (best .entry)) state r (now (plan .exit)) (now (best .exit)) ⌝ }
 {
     while 0 < left {
         let code = code_at(codes, at);

@@ -1,6 +1,6 @@
 -- `first_unmet` meets its contract. The outer loop's invariant: every rule before r is met, and `end` is where rule r starts (`Passed`);
--- its measure is the number of rules left. The inner loop's: what the entries from i on say is what rule r says (`Untested`); its
--- measure is the number of entries left. Assumes nothing.
+-- its measure is the number of rules left. The inner loop's: no entry of rule r before i is held (`Untested`); its measure is the
+-- number of entries left. Assumes nothing.
 use Prim.Native.Nat.{_<_, _-_}
 use mathlib.Core.Path.{_≡_, refl, sym, _∙_}
 use native.Mathlib.Omega.{arith}
