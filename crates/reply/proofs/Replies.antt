@@ -23,7 +23,7 @@ use Rattle.typed.specs.declared.Mistake.{Mistake}
 use Rattle.typed.specs.declared.Reading.{Reading}
 use Rattle.typed.specs.declared.Reading.the-variants.{Words}
 use Rattle.typed.specs.declared.Reading.the-variants.{Refused as Refusal}
-use Rattle.typed.proofs.Answers.{numbers-injective}
+use Rattle.typed.proofs.Only.{numbers-injective}
 use Rattle.sheet.specs.Contract.{faultOf, refusalCode}
 use Rattle.search.specs.Contract.{numbersOf, Finds}
 use Rattle.search.proofs.Finds.{code-large}

@@ -9,9 +9,11 @@ pub mod Splitting
 pub mod Taking
 pub mod Counting
 pub mod Filling
-pub mod Answers
+pub mod Limits
 pub mod Runs
 pub mod Sayings
 pub mod Reaching
 pub mod Verdicts
+pub mod Answers
+pub mod Only
 pub mod Printed

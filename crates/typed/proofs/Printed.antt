@@ -10,11 +10,11 @@ use mathlib.Core.List.{List, [], _∷_, _++_, append-assoc}
 use Prim.Native.Nat.{ℕ, zero, suc, _+_, _-_, _*_, _/_, _%_, _^_, _≤_, _<_}
 use native.Mathlib.Omega.{arith}
 use native.Mathlib.Nat.{pow-suc, mod-lt, div-add-mod', div-lt-iff-lt-mul, div-lt-self}
-use lib.ListN.{length, drop, length-append}
+use lib.ListN.{length, length-append}
 use lib.IntN.{ℤ, pos, negsuc, negℤ}
 use lib.Dec.{ltb, lit<}
 use borrow.Author.Tests.{ltb-true, ltb-false, le-leb}
-use Rattle.lists.specs.Lists.{Each}
+use Rattle.lists.specs.Lists.{Each, inFront}
 use Rattle.lists.proofs.Each.{each-append}
 use Rattle.typed.specs.Text.{Read, got, isSeparator, isDigit, decimal, readText}
 use Rattle.typed.specs.Answer.{readingOf, numbersOf, roomAfter, Reads}
@@ -22,7 +22,7 @@ use Rattle.typed.specs.Allowed.{Passing, WordSized, Allowed, nothing, wo
 use Rattle.typed.specs.Printing.{digitsBy, digitsOf, printedWord, printed}
 use Rattle.typed.specs.declared.Reading.{Reading}
 use Rattle.typed.specs.declared.Reading.the-variants.{Words}
-use Rattle.typed.proofs.Answers.{numbers-injective}
+use Rattle.typed.proofs.Only.{numbers-injective}
 use Rattle.typed.proofs.Verdicts.{verdict-only}
 
 -- ── the digits of a number ──
@@ -136,7 +136,7 @@ printed-reads words room h short fits =
 -- so `read` answers their number and puts them at the front of the room
 pub printed-back : (words before : List ℤ) {r : Reading} {after : List ℤ} → Each WordSized words → length (printed words) ≤ 60000
     → length words ≤ length before
-    → Reads (printed words) before r after → (r ≡ Words (length words)) × (after ≡ words ++ drop (length words) before)
+    → Reads (printed words) before r after → (r ≡ Words (length words)) × (after ≡ inFront words before)
 printed-back words before {r} h short fits x =
     let e = printed-reads words (length before) h short fits in
     let told = x .says ∙ ap (λ (y : Read (List ℤ)). numbersOf (readingOf y)) e in

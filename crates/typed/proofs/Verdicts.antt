@@ -19,7 +19,7 @@ use Rattle.typed.specs.Reasons.{TokenEnds, TokenAt, Reason}
 use Rattle.typed.specs.declared.Mistake.{Mistake}
 use Rattle.typed.specs.declared.Mistake.the-variants.{WrongByte, BadNumber, TooLong, NoRoom}
 use Rattle.typed.proofs.Taking.{none-left, got-one, no-room, one-bad}
-use Rattle.typed.proofs.Answers.{within, beyond}
+use Rattle.typed.proofs.Limits.{within, beyond}
 use Rattle.typed.proofs.Runs.{run-token, token-run}
 use Rattle.typed.proofs.Sayings.{Says, token-says, says-only}
 use Rattle.typed.proofs.Reaching.{allowed-bytes, allowed-some, behind, word-behind, skip-one, reached-reads, reached-separator, reached-word}
