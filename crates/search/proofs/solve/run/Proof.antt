@@ -1,5 +1,7 @@
 -- `run` meets its contract: it walks the hall from its first node, and each of its three ways out is a law of Solves. Assumes nothing.
+use mathlib.Core.Path.{_≡_, ap, _∙_}
 use native.Mathlib.Omega.{arith}
+use lib.ListN.{length, length-replicate}
 use borrow.Author.Needs.{needs}
 use Rattle.search.proofs.Solves.{first-node, gives-spent, gives-none, gives-least}
 use Rattle.search.proofs.solve.run.Statement.{statement}
@@ -11,6 +13,13 @@ Done = tie.After-walk-plan
 
 abbrev begun : Done → tie.Start
 begun c = c .before .before .before .before .before .before .before .before
+
+-- the plan and the best are as long as the costs
+plan-long : (c : Done) → length (c .walk-plan .last .1 .1 .1 .1 .0) ≡ length (begun c .args .costs .now)
+plan-long c = c .walk-plan .kept .1 .1 .1 .1 .0 ∙ ap length (begun c .pre .free) ∙ length-replicate (length (begun c .args .costs .now)) 0
+
+best-long : (c : Done) → length (c .walk-plan .last .1 .1 .1 .1 .1 .0) ≡ length (begun c .args .costs .now)
+best-long c = c .walk-plan .kept .1 .1 .1 .1 .1 .0 ∙ begun c .pre .same-best
 
 at-start-requires : tie.Need-at-start-requires
 at-start-requires c κs = search needs
@@ -34,12 +43,14 @@ part-copy-plan-end : tie.Need-part-copy-plan-end
 part-copy-plan-end c =
     let done = c .before .before .before .before .before .before .before .before .before .before .before in
     let fits = begun done .pre .solvable .fits in
-    let same = begun done .pre .same-best in
-    let kept = done .walk-plan .kept .1 .1 .1 .1 .1 .0 in
-    omega arith
+    omega (arith, best-long done)
 
 copy-plan-requires : tie.Need-copy-plan-requires
-copy-plan-requires c κs = search needs
+copy-plan-requires c κs =
+    let done = c .before .before .before .before .before .before .before .before .before .before .before .before in
+    let plan = plan-long done in
+    let best = best-long done in
+    search needs
 
 same-length : tie.Need-same-length
 same-length c = search needs
