@@ -5,9 +5,7 @@ use mathlib.Core.List.{List}
 use Prim.Native.Nat.{ℕ, _+_, _-_, _≤_}
 use native.Mathlib.Omega.{arith}
 use lib.ListN.{length, drop, length-take, length-drop}
-use lib.Seq.{length-sets}
 use borrow.Rule.Slice.PartMut.{midOf}
-use Rattle.reply.specs.Printed.{printedFor}
 use Rattle.reply.specs.Contract.{Replies}
 use Rattle.leastplan.specs.Input.{Within}
 use Rattle.leastplan.specs.declared.Input.{Input}
@@ -21,5 +19,5 @@ pub part-within : (input : Input) (more : ℕ) (part room : List ℕ) (n : ℕ) 
 part-within input more part room n e h s l =
     omega (arith, bytes-within input more part e h, length-take (length room - n) (drop n room), length-drop n room)
 
-pub reply-within : (text before : List ℕ) (r : ℕ) (after : List ℕ) → Replies text before r after → length before ≡ 1024 → r ≤ length after
-reply-within text before r after h s = omega (arith, h .fits, ap length (h .room), length-sets before 0 (printedFor text))
+pub reply-within : (text before : List ℕ) (r : ℕ) (after : List ℕ) → Replies text before r after → r ≤ length after
+reply-within text before r after h = omega (arith, h .says, ap length (h .front), length-take r after)

@@ -12,15 +12,18 @@ enum Input {
     Failed,
 }
 
+// The two rooms. Each is made by a function of its own: where a function that proves something wrote `[0; 60001]` itself, the elements
+// would be spelled out in its every goal.
+
 // One byte more than the longest text that is not refused for its length.
-fn no_bytes() -> [u8; 60001]
+fn text_room() -> [u8; 60001]
     ensures { λ r. ⌜ length r ≡ 60001 ⌝ }
 {
     [0u8; 60001]
 }
 
 // Room for any reply.
-fn no_lines() -> [u8; 1024]
+fn reply_room() -> [u8; 1024]
     ensures { λ r. ⌜ length r ≡ 1024 ⌝ }
 {
     [0u8; 1024]
@@ -60,7 +63,7 @@ fn read_input(room: &mut [u8]) -> Input
 
 // Reads, answers and writes, and does nothing else.
 fn main() {
-    let mut text = no_bytes();
+    let mut text = text_room();
     match read_input(&mut text) {
         Input::Failed => {
             io::write_all(
@@ -69,7 +72,7 @@ fn main() {
             );
         }
         Input::Bytes(n) => {
-            let mut out = no_lines();
+            let mut out = reply_room();
             let m = reply::answer(&text[0..n], &mut out);
             io::write_all(STDOUT_FILENO, &out[0..m]);
         }

@@ -1,4 +1,4 @@
--- The items of a line, one by one: numbers (`numbers-more`, `numbers-room`, `numbers-end`), one device by its mark (`room-1`, `room-2`,
+-- The items of a line, one by one: numbers (`numbers-more`, `numbers-room`, `numbers-end`), one device by its mark (`long-1`, `long-2`,
 -- `puts-1`, `puts-2`, `puts-none`), and the devices of a plan room (`devices-more`,
 -- `devices-room`, `devices-end`). Assumes nothing.
 use mathlib.Core.Path.{_≡_, refl, sym, _∙_, ap}
@@ -24,8 +24,8 @@ unfolding spaced
 numbers-more numbers i h = rw add-one (ap (spaced digitsOf) (drop-cons numbers i 0 h))
 
 pub numbers-room : (numbers : List ℕ) (i at : ℕ) (before : List ℕ) (next : ℕ) (out : List ℕ)
-    → Left (spaced digitsOf (drop i numbers)) (spaced digitsOf numbers) at before next out → i < length numbers → Fits (spaced digitsOf numbers) at
-    → Fits ((32 ∷ []) ++ digitsOf (getD numbers i 0)) next
+    → Left (spaced digitsOf (drop i numbers)) (spaced digitsOf numbers) at before next out → i < length numbers → Fits (spaced digitsOf numbers) at before
+    → Fits ((32 ∷ []) ++ digitsOf (getD numbers i 0)) next out
 numbers-room numbers i at before next out left h fits =
     left-room _ _ at before next out left ((32 ∷ []) ++ digitsOf (getD numbers i 0)) (spaced digitsOf (drop (i + 1) numbers)) (numbers-more numbers i h) fits
 
@@ -56,21 +56,20 @@ module _ (x v : ℕ) where
   unfolding spaced wordsOf
   text-2 e = rw (e, add-one) (ap (λ (l : List ℕ). 32 ∷ 45 ∷ l) (append-nil (digitsOf (suc v))))
 
-  module _ (at : ℕ) where
-    pub room-1 : x ≡ 1 → Fits (printedEntries (heldBy x v [])) at → Fits ((32 ∷ []) ++ digitsOf (v + 1)) at
-    room-1 e fits = rw (text-1 e) at fits
+  pub long-1 : x ≡ 1 → length (printedEntries (heldBy x v [])) ≡ 1 + length (digitsOf (v + 1))
+  long-1 e = omega (arith, ap length (text-1 e))
 
-    pub room-2 : x ≡ 2 → Fits (printedEntries (heldBy x v [])) at → Fits ((32 ∷ 45 ∷ []) ++ digitsOf (v + 1)) at
-    room-2 e fits = rw (text-2 e) at fits
+  pub long-2 : x ≡ 2 → length (printedEntries (heldBy x v [])) ≡ 2 + length (digitsOf (v + 1))
+  long-2 e = omega (arith, ap length (text-2 e))
 
-    module _ (before : List ℕ) (r : ℕ) (after : List ℕ) where
-      pub puts-1 : x ≡ 1 → Puts ((32 ∷ []) ++ digitsOf (v + 1)) at before r after → Puts (printedEntries (heldBy x v [])) at before r after
-      puts-1 e p = rw (text-1 e) p
+  module _ (at : ℕ) (before : List ℕ) (r : ℕ) (after : List ℕ) where
+    pub puts-1 : x ≡ 1 → Puts ((32 ∷ []) ++ digitsOf (v + 1)) at before r after → Puts (printedEntries (heldBy x v [])) at before r after
+    puts-1 e p = rw (text-1 e) p
 
-      pub puts-2 : x ≡ 2 → Puts ((32 ∷ 45 ∷ []) ++ digitsOf (v + 1)) at before r after → Puts (printedEntries (heldBy x v [])) at before r after
-      puts-2 e p = rw (text-2 e) p
+    pub puts-2 : x ≡ 2 → Puts ((32 ∷ 45 ∷ []) ++ digitsOf (v + 1)) at before r after → Puts (printedEntries (heldBy x v [])) at before r after
+    puts-2 e p = rw (text-2 e) p
 
-pub puts-none : (x v at : ℕ) (before : List ℕ) → (x ≡ 1 → ⊥) → (x ≡ 2 → ⊥) → Fits (printedEntries (heldBy x v [])) at
+pub puts-none : (x v at : ℕ) (before : List ℕ) → (x ≡ 1 → ⊥) → (x ≡ 2 → ⊥) → Fits (printedEntries (heldBy x v [])) at before
     → Puts (printedEntries (heldBy x v [])) at before at before
 unfolding spaced wordsOf
 puts-none zero v at before a b h = record { ends = omega arith; leaves = refl; fits = omega arith }
@@ -97,7 +96,7 @@ devices-more plan v h =
 
 pub devices-room : (plan : List ℕ) (v at : ℕ) (before : List ℕ) (next : ℕ) (out : List ℕ)
     → Left (printedEntries (heldFrom v (drop v (take 200 plan)))) (printedEntries (heldEntries (take 200 plan))) at before next out → v < 200
-    → Fits (printedEntries (heldEntries (take 200 plan))) at → Fits (printedEntries (heldBy (getD plan v 0) v [])) next
+    → Fits (printedEntries (heldEntries (take 200 plan))) at before → Fits (printedEntries (heldBy (getD plan v 0) v [])) next out
 devices-room plan v at before next out left h fits =
     left-room _ _ at before next out left (printedEntries (heldBy (getD plan v 0) v [])) (printedEntries (heldFrom (v + 1) (drop (v + 1) (take 200 plan)))) (devices-more plan v h) fits
 

@@ -1,5 +1,6 @@
--- Everything that is printed has room: the lines of none and spent (`none-fits`, `spent-fits`), of a refusal (`refused-fits`), of a least plan
--- (`least-fits`), and the line of the held devices behind that (`hold-fits`): at most 49 and 897 bytes. Assumes nothing.
+-- Everything that is printed has place in a room of 1,024 bytes: the lines of none and spent (`none-fits`, `spent-fits`), of a refusal
+-- (`refused-fits`), of a least plan (`least-fits`), at most 49 bytes; and behind that (`hold-fits`) the line of the held devices, at most
+-- 897: its entries and its byte 10 (`entries-fit`, `close-fits`). Assumes nothing.
 use mathlib.Core.Path.{_≡_, refl}
 use mathlib.Core.List.{List, [], _∷_, _++_}
 use Prim.Native.Nat.{ℕ, zero, suc, _+_, _^_, _≤_, _<_}
@@ -8,13 +9,17 @@ use lib.ListN.{length, take, length-append, length-take}
 use Rattle.hall.specs.Order.{heldBy, heldFrom, heldEntries}
 use Rattle.hall.specs.Ranges.{wordsOf}
 use Rattle.typed.specs.Printing.{digitsBy, digitsOf}
-use Rattle.reply.specs.Printed.{leastWord, noneWord, spentWord, refusedWord, refusedLine, spaced, line, printedEntries, holdLine}
+use Rattle.reply.specs.Printed.{leastWord, noneWord, spentWord, refusedWord, refusedLine, spaced, line, printedEntries}
 use Rattle.reply.specs.Contract.{Fits, Puts}
 use Rattle.typed.proofs.Printed.{digits-few}
+use Rattle.reply.proofs.Putting.{puts-length}
 
 -- ── lines of numbers: at most 10 digits in 32 bits, 20 in 64 ──
 short-32 : (n : ℕ) → n < 2 ^ 32 → length (digitsOf n) ≤ 10
 short-32 n h = digits-few n n 9 (omega arith)
+
+pub wider : (n : ℕ) → n < 2 ^ 32 → n < 2 ^ 64
+wider n h = omega arith
 
 short-64 : (n : ℕ) → n < 2 ^ 64 → length (digitsOf n) ≤ 20
 short-64 n h = digits-few n n 19 (omega arith)
@@ -30,18 +35,20 @@ no-more : length (spaced digitsOf []) ≡ 0
 unfolding spaced
 no-more = refl
 
-count-fits : (word : List ℕ) (opened : ℕ) → length word ≤ 7 → opened < 2 ^ 32 → Fits (line word digitsOf (opened ∷ [])) 0
-count-fits word opened w h = omega (arith, line-size word (opened ∷ []), one-more opened [], no-more, short-32 opened h)
+module _ (room : List ℕ) (size : length room ≡ 1024) where
+  count-fits : (word : List ℕ) (opened : ℕ) → length word ≤ 7 → opened < 2 ^ 32 → Fits (line word digitsOf (opened ∷ [])) 0 room
+  count-fits word opened w h = omega (arith, line-size word (opened ∷ []), one-more opened [], no-more, short-32 opened h)
 
-pub none-fits : (opened : ℕ) → opened < 2 ^ 32 → Fits (line noneWord digitsOf (opened ∷ [])) 0
-none-fits opened h = count-fits noneWord opened (omega arith) h
+  pub none-fits : (opened : ℕ) → opened < 2 ^ 32 → Fits (line noneWord digitsOf (opened ∷ [])) 0 room
+  none-fits opened h = count-fits noneWord opened (omega arith) h
 
-pub spent-fits : (opened : ℕ) → opened < 2 ^ 32 → Fits (line spentWord digitsOf (opened ∷ [])) 0
-spent-fits opened h = count-fits spentWord opened (omega arith) h
+  pub spent-fits : (opened : ℕ) → opened < 2 ^ 32 → Fits (line spentWord digitsOf (opened ∷ [])) 0 room
+  spent-fits opened h = count-fits spentWord opened (omega arith) h
 
-pub refused-fits : (code place : ℕ) → code < 2 ^ 32 → place < 2 ^ 64 → Fits (refusedLine code place) 0
-refused-fits code place x y =
-    omega (arith, line-size refusedWord (code ∷ place ∷ []), one-more code (place ∷ []), one-more place [], no-more, short-32 code x, short-64 place y)
+-- of any two numbers
+pub refused-fits : (room : List ℕ) (code place : ℕ) → 1024 ≤ length room → code < 2 ^ 64 → place < 2 ^ 64 → Fits (refusedLine code place) 0 room
+refused-fits room code place large x y =
+    omega (arith, line-size refusedWord (code ∷ place ∷ []), one-more code (place ∷ []), one-more place [], no-more, short-64 code x, short-64 place y)
 
 least-short : (cost held opened : ℕ) → cost < 2 ^ 64 → held < 2 ^ 32 → opened < 2 ^ 32 → length (line leastWord digitsOf (cost ∷ held ∷ opened ∷ [])) ≤ 49
 least-short cost held opened x y z =
@@ -57,8 +64,9 @@ least-short cost held opened x y z =
       short-32 opened z,
     )
 
-pub least-fits : (cost held opened : ℕ) → cost < 2 ^ 64 → held < 2 ^ 32 → opened < 2 ^ 32 → Fits (line leastWord digitsOf (cost ∷ held ∷ opened ∷ [])) 0
-least-fits cost held opened x y z = omega (arith, least-short cost held opened x y z)
+pub least-fits : (room : List ℕ) (cost held opened : ℕ) → length room ≡ 1024 → cost < 2 ^ 64 → held < 2 ^ 32 → opened < 2 ^ 32
+    → Fits (line leastWord digitsOf (cost ∷ held ∷ opened ∷ [])) 0 room
+least-fits room cost held opened size x y z = omega (arith, least-short cost held opened x y z)
 
 -- ── the held devices ──
 -- room for a blank, a minus and the digits of each of so many devices from one on
@@ -83,11 +91,10 @@ all-devices : roomFor 0 200 ≡ 892
 unfolding roomFor digitsBy
 all-devices = refl
 
-hold-short : (plan : List ℕ) → length (holdLine (take 200 plan)) ≤ 897
-hold-short plan =
-    let marks = take 200 plan in
-    omega (arith, length-append (printedEntries (heldEntries marks)) (10 ∷ []), devices-short 0 200 marks (omega (arith, length-take 200 plan)), all-devices)
+pub entries-short : (plan : List ℕ) → length (printedEntries (heldEntries (take 200 plan))) ≤ 892
+entries-short plan = omega (arith, devices-short 0 200 (take 200 plan) (omega (arith, length-take 200 plan)), all-devices)
 
-pub hold-fits : (cost held opened : ℕ) (plan before : List ℕ) (next : ℕ) (out : List ℕ) → cost < 2 ^ 64 → held < 2 ^ 32 → opened < 2 ^ 32
-    → Puts (line leastWord digitsOf (cost ∷ held ∷ opened ∷ [])) 0 before next out → Fits (holdLine (take 200 plan)) next
-hold-fits cost held opened plan before next out x y z p = omega (arith, p .ends, least-short cost held opened x y z, hold-short plan)
+pub hold-fits : (cost held opened : ℕ) (before : List ℕ) (next : ℕ) (out : List ℕ) → cost < 2 ^ 64 → held < 2 ^ 32 → opened < 2 ^ 32 → length before ≡ 1024
+    → Puts (line leastWord digitsOf (cost ∷ held ∷ opened ∷ [])) 0 before next out → next + 975 ≤ length out
+hold-fits cost held opened before next out x y z size p =
+    omega (arith, p .ends, least-short cost held opened x y z, puts-length _ 0 before next out p)

@@ -9,8 +9,9 @@ use Prim.Native.Nat.{ℕ, zero, suc, _-_, _≤_}
 use native.Mathlib.Omega.{arith}
 use native.Mathlib.Nat.{sub-zero}
 use lib.ListN.{length, take, drop, replicate, length-append, length-replicate}
-use lib.Seq.{sets, take-all, take-append-seam}
+use lib.Seq.{take-all, take-append-seam}
 use lib.IntN.{ℤ}
+use Rattle.lists.specs.Lists.{inFront}
 use Rattle.hall.specs.Order.{heldBy, heldFrom, heldEntries}
 use Rattle.hall.specs.Reading.{faultCode}
 use Rattle.hall.specs.Answer as hall
@@ -31,6 +32,7 @@ use Rattle.search.specs.declared.Answer.{Answer}
 use Rattle.search.specs.declared.Answer.the-variants.{Least, None, Spent, Refused}
 use Rattle.reply.specs.Printed.{refusedLine, printedAnswer, printedReading, printedFor}
 use Rattle.reply.specs.Contract.{Puts, linesOf, Prints, Replies}
+use Rattle.reply.proofs.Prints.{put-in-front, front-and-rest}
 
 -- ── the marks behind a plan ──
 free-none : (v k n : ℕ) → heldFrom v (drop k (replicate n 0)) ≡ []
@@ -109,20 +111,24 @@ module _ (typed : List ℕ) (before : List ℤ) (r : Reading) (after : List ℤ)
       go (text.refused n i) a = let z : n ≡ m = cc in let y : i ≡ place = cc in rw (z, y)
       go (text.got words) a = absurd (let z : _≡_ {A = ℕ} 0 1 = cc in omega arith)
 
-module _ (typed : List ℕ) (words : List ℤ) (size : length words ≡ 16384) (reading : Reading) (words′ : List ℤ) (reads : Reads typed words reading words′)
+module _ (typed : List ℕ) (words : List ℤ) (large : length words ≡ 16384) (reading : Reading) (words′ : List ℤ) (reads : Reads typed words reading words′)
     (before : List ℕ) (r : ℕ) (after : List ℕ) where
-  -- the lines of the reading, put at the front of the room
-  replies : (x : text.Read (List ℤ)) → readText typed (length words) ≡ x → (lines : List ℕ) → lines ≡ printedReading x → r ≡ length lines → after ≡ sets before 0 lines
-      → r ≤ 1024 → Replies typed before r after
+  -- lines in front of the room that are those of the reading
+  replies : (x : text.Read (List ℤ)) → readText typed (length words) ≡ x → (lines : List ℕ) → lines ≡ printedReading x → length before ≡ 1024
+      → r ≡ length lines → r ≤ 1024 → after ≡ inFront lines before → Replies typed before r after
   unfolding printedFor
-  replies x e lines f says room fits =
-      let g : lines ≡ printedReading (readText typed 16384) = f ∙ ap printedReading (sym e) ∙ ap (λ (n : ℕ). printedReading (readText typed n)) size in
-      record { says = rw (sym g) says; room = rw (sym g) room; fits = fits }
+  replies x e lines f size says fits room =
+      let g : lines ≡ printedReading (readText typed 16384) = f ∙ ap printedReading (sym e) ∙ ap (λ (n : ℕ). printedReading (readText typed n)) large in
+      let both = front-and-rest lines before r after says room in
+      record { size = size; says = rw (sym g) says; fits = fits; room = rw (sym g) room; front = rw (sym g) (both .0); rest = both .1 }
 
-  pub replies-refused : (m : Mistake) (code place : ℕ) → reading ≡ Refusal m place → code ≡ text.mistakeCode m → Puts (refusedLine code place) 0 before r after
-      → Replies typed before r after
-  replies-refused m code place e c p =
-      replies (text.refused m place) (read-refused typed words reading words′ reads m place e) (refusedLine code place) (rw c) (omega (arith, p .ends)) (p .leaves) (p .fits)
+  pub replies-refused : (m : Mistake) (code place : ℕ) → reading ≡ Refusal m place → code ≡ text.mistakeCode m → length before ≡ 1024
+      → Puts (refusedLine code place) 0 before r after → Replies typed before r after
+  replies-refused m code place e c size p =
+      replies (text.refused m place) (read-refused typed words reading words′ reads m place e) (refusedLine code place) (rw c) size
+      (omega (arith, p .ends))
+      (omega (arith, p .fits))
+      (put-in-front (refusedLine code place) before r after p)
 
   pub replies-found : (w : ℕ) (marks : List ℕ) (found : Answer) (plan : List ℕ) → reading ≡ Words w → marks ≡ replicate 200 0
       → Finds (take (w - 0) words′) 1000000 marks found plan → length plan ≡ length marks → Prints found plan before r after → Replies typed before r after
@@ -134,6 +140,7 @@ module _ (typed : List ℕ) (words : List ℤ) (size : length words ≡ 16384) (
       finds .room ∙ ap (λ (k : ℕ). roomAfter (answer (take (w - 0) words′) 1000000 k) marks) n ∙ ap (roomAfter a) blank in
       replies (text.got (take (w - 0) words′)) (read-words typed words reading words′ reads w e) (linesOf found plan)
       (same-lines plan (omega arith) found a told room)
+      (p .size)
       (p .says)
-      (p .room)
       (p .fits)
+      (p .room)

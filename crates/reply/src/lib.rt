@@ -2,7 +2,7 @@
 //
 // put copies bytes and digits into the room; lines makes a line of a word and its numbers, and the line of the held devices.
 ghost use mathlib.Core.Path.{_≡_};
-ghost use lib.ListN.{length, replicate};
+ghost use lib.ListN.{length};
 ghost use Rattle.reply.specs.Contract.{Prints, Replies};
 
 mod lines;
@@ -14,18 +14,12 @@ use lines::put_refused;
 use search::Answer;
 use typed::Reading;
 
-// Room for the words of any sheet.
-fn no_words() -> [i32; 16384]
+// Room for the words of any sheet. It is made by a function of its own: where a function that proves something wrote `[0; 16384]`
+// itself, the elements would be spelled out in its every goal.
+fn words_room() -> [i32; 16384]
     ensures { λ r. ⌜ length r ≡ 16384 ⌝ }
 {
     [0i32; 16384]
-}
-
-// Room for a plan of any hall, with nothing held.
-fn no_marks() -> [u8; 200]
-    ensures { λ r. ⌜ r ≡ replicate 200 0 ⌝ }
-{
-    [0u8; 200]
 }
 
 // The lines of an answer, with the devices that the plan holds; a mark other than 1 and 2 holds nothing.
@@ -54,11 +48,11 @@ pub fn print_answer(answer: Answer, plan: &[u8; 200], out: &mut [u8; 1024]) -> u
 pub fn answer(text: &[u8], out: &mut [u8; 1024]) -> usize
     ensures { λ r. ⌜ Replies (now (text .entry)) (now (out .entry)) r (now (out .exit)) ⌝ }
 {
-    let mut words = no_words();
+    let mut words = words_room();
     match typed::read(text, &mut words) {
         Reading::Refused(mistake, place) => put_refused(typed::code_of(mistake), place, out),
         Reading::Words(w) => {
-            let mut plan = no_marks();
+            let mut plan = search::plan_room();
             let found = search::least_plan(&words[0..w], 1000000, &mut plan);
             print_answer(found, &plan, out)
         }

@@ -1,7 +1,7 @@
 // The lines: a word and its numbers, a refusal among them; and the held devices.
 ghost use mathlib.Core.List.{[]};
-ghost use Prim.Native.Nat.{_<_};
-ghost use lib.ListN.{take};
+ghost use Prim.Native.Nat.{_+_, _≤_, _<_};
+ghost use lib.ListN.{length, take};
 ghost use Rattle.typed.specs.Printing.{digitsOf};
 ghost use Rattle.hall.specs.Order.{heldBy, heldEntries};
 ghost use Rattle.reply.specs.Printed.{spaced, line, printedEntries, holdLine, refusedLine};
@@ -11,8 +11,8 @@ use crate::put::put;
 use crate::put::put_number;
 
 // The numbers of a line, each behind a blank.
-fn put_numbers(numbers: &[u64], at: usize, out: &mut [u8; 1024]) -> usize
-    requires { ⌜ Fits (spaced digitsOf (now numbers)) at ⌝ }
+fn put_numbers(numbers: &[u64], at: usize, out: &mut [u8]) -> usize
+    requires { ⌜ Fits (spaced digitsOf (now numbers)) at (now out) ⌝ }
     ensures { λ r. ⌜ Puts (spaced digitsOf (now (numbers .entry))) at (now (out .entry)) r (now (out .exit)) ⌝ }
 {
     let mut next = at;
@@ -25,8 +25,8 @@ fn put_numbers(numbers: &[u64], at: usize, out: &mut [u8; 1024]) -> usize
 }
 
 // A line of numbers.
-pub(crate) fn put_line(word: &[u8], numbers: &[u64], at: usize, out: &mut [u8; 1024]) -> usize
-    requires { ⌜ Fits (line (now word) digitsOf (now numbers)) at ⌝ }
+pub(crate) fn put_line(word: &[u8], numbers: &[u64], at: usize, out: &mut [u8]) -> usize
+    requires { ⌜ Fits (line (now word) digitsOf (now numbers)) at (now out) ⌝ }
     ensures { λ r. ⌜ Puts (line (now (word .entry)) digitsOf (now (numbers .entry))) at (now (out .entry)) r (now (out .exit)) ⌝ }
 {
     let first = put(word, at, out);
@@ -34,8 +34,9 @@ pub(crate) fn put_line(word: &[u8], numbers: &[u64], at: usize, out: &mut [u8; 1
     close_line(next, out)
 }
 
-// A refusal of either table, at the front of the room.
-pub(crate) fn put_refused(code: u32, place: usize, out: &mut [u8; 1024]) -> usize
+// A refusal of either table, at the front of a reply's room.
+pub(crate) fn put_refused(code: u32, place: usize, out: &mut [u8]) -> usize
+    requires { ⌜ 1024 ≤ length (now out) ⌝ }
     ensures { λ r. ⌜ Puts (refusedLine code place) 0 (now (out .entry)) r (now (out .exit)) ⌝ }
 {
     let numbers = [code as u64, place as u64];
@@ -43,9 +44,9 @@ pub(crate) fn put_refused(code: u32, place: usize, out: &mut [u8; 1024]) -> usiz
 }
 
 // One device, by its mark; devices are numbered from 0 here.
-fn put_device(mark: u8, device: usize, at: usize, out: &mut [u8; 1024]) -> usize
+fn put_device(mark: u8, device: usize, at: usize, out: &mut [u8]) -> usize
     requires { ⌜ device < 200 ⌝ }
-    requires { ⌜ Fits (printedEntries (heldBy mark device [])) at ⌝ }
+    requires { ⌜ Fits (printedEntries (heldBy mark device [])) at (now out) ⌝ }
     ensures { λ r. ⌜ Puts (printedEntries (heldBy mark device [])) at (now (out .entry)) r (now (out .exit)) ⌝ }
 {
     if mark == 1 {
@@ -58,8 +59,8 @@ fn put_device(mark: u8, device: usize, at: usize, out: &mut [u8; 1024]) -> usize
 }
 
 // The devices that a plan room of 200 marks holds, in rising order.
-fn put_devices(plan: &[u8; 200], at: usize, out: &mut [u8; 1024]) -> usize
-    requires { ⌜ Fits (printedEntries (heldEntries (take 200 (now plan)))) at ⌝ }
+fn put_devices(plan: &[u8; 200], at: usize, out: &mut [u8]) -> usize
+    requires { ⌜ Fits (printedEntries (heldEntries (take 200 (now plan)))) at (now out) ⌝ }
     ensures { λ r. ⌜ Puts (printedEntries (heldEntries (take 200 (now (plan .entry))))) at (now (out .entry)) r (now (out .exit)) ⌝ }
 {
     let mut next = at;
@@ -71,9 +72,10 @@ fn put_devices(plan: &[u8; 200], at: usize, out: &mut [u8; 1024]) -> usize
     next
 }
 
-// The line of the held devices; the word alone where there are none.
-pub(crate) fn put_hold(plan: &[u8; 200], at: usize, out: &mut [u8; 1024]) -> usize
-    requires { ⌜ Fits (holdLine (take 200 (now plan))) at ⌝ }
+// The line of the held devices; the word alone where there are none. It has at most 897 bytes, and the line before it at most 49 of
+// 1,024.
+pub(crate) fn put_hold(plan: &[u8; 200], at: usize, out: &mut [u8]) -> usize
+    requires { ⌜ at + 975 ≤ length (now out) ⌝ }
     ensures { λ r. ⌜ Puts (holdLine (take 200 (now (plan .entry)))) at (now (out .entry)) r (now (out .exit)) ⌝ }
 {
     let first = put(b"hold", at, out);

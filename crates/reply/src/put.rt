@@ -4,8 +4,8 @@ ghost use Rattle.typed.specs.Printing.{digitsOf};
 ghost use Rattle.reply.specs.Contract.{Fits, Puts};
 
 // Everything that is printed comes into the room here.
-pub(crate) fn put(bytes: &[u8], at: usize, out: &mut [u8; 1024]) -> usize
-    requires { ⌜ Fits (now bytes) at ⌝ }
+pub(crate) fn put(bytes: &[u8], at: usize, out: &mut [u8]) -> usize
+    requires { ⌜ Fits (now bytes) at (now out) ⌝ }
     ensures { λ r. ⌜ Puts (now (bytes .entry)) at (now (out .entry)) r (now (out .exit)) ⌝ }
 {
     let mut i: usize = 0;
@@ -17,8 +17,8 @@ pub(crate) fn put(bytes: &[u8], at: usize, out: &mut [u8; 1024]) -> usize
 }
 
 // A number behind a blank, or behind a blank and a minus.
-pub(crate) fn put_number(front: &[u8], n: u64, at: usize, out: &mut [u8; 1024]) -> usize
-    requires { ⌜ Fits (now front ++ digitsOf n) at ⌝ }
+pub(crate) fn put_number(front: &[u8], n: u64, at: usize, out: &mut [u8]) -> usize
+    requires { ⌜ Fits (now front ++ digitsOf n) at (now out) ⌝ }
     ensures { λ r. ⌜ Puts (now (front .entry) ++ digitsOf n) at (now (out .entry)) r (now (out .exit)) ⌝ }
 {
     let mut digits = [0u8; 20];
@@ -28,8 +28,8 @@ pub(crate) fn put_number(front: &[u8], n: u64, at: usize, out: &mut [u8; 1024]) 
 }
 
 // 01, "each line closed by byte 10".
-pub(crate) fn close_line(at: usize, out: &mut [u8; 1024]) -> usize
-    requires { ⌜ Fits (10 ∷ []) at ⌝ }
+pub(crate) fn close_line(at: usize, out: &mut [u8]) -> usize
+    requires { ⌜ Fits (10 ∷ []) at (now out) ⌝ }
     ensures { λ r. ⌜ Puts (10 ∷ []) at (now (out .entry)) r (now (out .exit)) ⌝ }
 {
     put(b"\n", at, out)

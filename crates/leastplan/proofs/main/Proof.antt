@@ -5,8 +5,8 @@ use borrow.Author.Needs.{needs}
 use Rattle.leastplan.proofs.main.Statement.{statement}
 use Rattle.leastplan.proofs.main.Tie as tie
 
-no-bytes-requires : tie.Need-no-bytes-requires
-no-bytes-requires c κs = search needs
+text-room-requires : tie.Need-text-room-requires
+text-room-requires c κs = search needs
 
 slice-aggregate-read-input : tie.Need-slice-aggregate-read-input
 slice-aggregate-read-input c = search needs
@@ -26,8 +26,8 @@ write-all-requires c κs = search needs
 enum-known-n : tie.Need-enum-known-n
 enum-known-n c = search needs
 
-no-lines-requires : tie.Need-no-lines-requires
-no-lines-requires c κs = search needs
+reply-room-requires : tie.Need-reply-room-requires
+reply-room-requires c κs = search needs
 
 sub-answer : tie.Need-sub-answer
 sub-answer c = search needs
@@ -63,14 +63,14 @@ pub main-spec : {M : Type 1} → statement M
 main-spec =
     tie.close
     (tie.spec
-    no-bytes-requires
+    text-room-requires
     slice-aggregate-read-input
     read-input-requires
     enum-told
     slice-aggregate-write-all
     write-all-requires
     enum-known-n
-    no-lines-requires
+    reply-room-requires
     sub-answer
     part-answer-start
     part-answer-end

@@ -5,8 +5,8 @@ use borrow.Author.Needs.{needs}
 use Rattle.reply.proofs.answer.Statement.{statement}
 use Rattle.reply.proofs.answer.Tie as tie
 
-no-words-requires : tie.Need-no-words-requires
-no-words-requires c κs = search needs
+words-room-requires : tie.Need-words-room-requires
+words-room-requires c κs = search needs
 
 slice-aggregate-read : tie.Need-slice-aggregate-read
 slice-aggregate-read c = search needs
@@ -26,8 +26,8 @@ put-refused-requires c κs = search needs
 enum-known-w : tie.Need-enum-known-w
 enum-known-w c = search needs
 
-no-marks-requires : tie.Need-no-marks-requires
-no-marks-requires c κs = search needs
+plan-room-requires : tie.Need-plan-room-requires
+plan-room-requires c κs = search needs
 
 sub-least-plan : tie.Need-sub-least-plan
 sub-least-plan c = search needs
@@ -57,14 +57,14 @@ pub answer-spec : {M : Type 1} → statement M
 answer-spec =
     tie.close
     (tie.spec
-    no-words-requires
+    words-room-requires
     slice-aggregate-read
     read-requires
     enum-known-mistake
     code-of-requires
     put-refused-requires
     enum-known-w
-    no-marks-requires
+    plan-room-requires
     sub-least-plan
     part-least-plan-start
     part-least-plan-end

@@ -29,8 +29,8 @@ put-hold-requires c κs = search hold-fits
 enum-known-answer-2 : tie.Need-enum-known-answer-2
 enum-known-answer-2 c = search needs
 
-cast-t27 : tie.Need-cast-t27
-cast-t27 c = search needs
+cast-t29 : tie.Need-cast-t29
+cast-t29 c = search needs
 
 slice-aggregate-put-line-3 : tie.Need-slice-aggregate-put-line-3
 slice-aggregate-put-line-3 c = search needs
@@ -44,8 +44,8 @@ put-line-requires-2 c κs = search none-fits
 enum-known-answer-3 : tie.Need-enum-known-answer-3
 enum-known-answer-3 c = search needs
 
-cast-t33 : tie.Need-cast-t33
-cast-t33 c = search needs
+cast-t36 : tie.Need-cast-t36
+cast-t36 c = search needs
 
 slice-aggregate-put-line-5 : tie.Need-slice-aggregate-put-line-5
 slice-aggregate-put-line-5 c = search needs
@@ -89,12 +89,12 @@ print-answer-spec =
     put-line-requires
     put-hold-requires
     enum-known-answer-2
-    cast-t27
+    cast-t29
     slice-aggregate-put-line-3
     slice-aggregate-put-line-4
     put-line-requires-2
     enum-known-answer-3
-    cast-t33
+    cast-t36
     slice-aggregate-put-line-5
     slice-aggregate-put-line-6
     put-line-requires-3

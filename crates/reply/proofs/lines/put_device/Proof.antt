@@ -1,5 +1,6 @@
 -- `put_device` meets its contract: an entry for a mark of 1 or 2, nothing for any other mark (Items). Assumes nothing.
-use Rattle.reply.proofs.Items.{room-1, room-2, puts-1, puts-2, puts-none}
+use Rattle.reply.proofs.Items.{long-1, long-2, puts-1, puts-2, puts-none}
+use native.Mathlib.Omega.{arith}
 use borrow.Author.Needs.{needs}
 use Rattle.reply.proofs.lines.put_device.Statement.{statement}
 use Rattle.reply.proofs.lines.put_device.Tie as tie
@@ -11,7 +12,10 @@ add-put-number : tie.Need-add-put-number
 add-put-number c = search needs
 
 put-number-requires : tie.Need-put-number-requires
-put-number-requires c κs = search room-1
+put-number-requires c κs = omega (arith, long-1 (c .before .before .before .before .args .mark) (c .before .before .before .before .args .device) (c .before .before .if1 .taken))
+
+same-length : tie.Need-same-length
+same-length c = search needs
 
 returns : tie.Need-returns
 returns c = search puts-1
@@ -23,7 +27,10 @@ add-put-number-2 : tie.Need-add-put-number-2
 add-put-number-2 c = search needs
 
 put-number-requires-2 : tie.Need-put-number-requires-2
-put-number-requires-2 c κs = search room-2
+put-number-requires-2 c κs = omega (arith, long-2 (c .before .before .before .before .before .args .mark) (c .before .before .before .before .before .args .device) (c .before .before .if2 .taken))
+
+same-length-2 : tie.Need-same-length-2
+same-length-2 c = search needs
 
 returns-2 : tie.Need-returns-2
 returns-2 c = search puts-2
@@ -38,9 +45,11 @@ put-device-spec =
     slice-aggregate-put-number
     add-put-number
     put-number-requires
+    same-length
     returns
     slice-aggregate-put-number-2
     add-put-number-2
     put-number-requires-2
+    same-length-2
     returns-2
     returns-3)

@@ -3,7 +3,7 @@ use Prim.Native.Nat.{_-_}
 use lib.ListN.{take, drop}
 use Rattle.hall.specs.Order.{heldFrom, heldEntries}
 use Rattle.reply.specs.Printed.{printedEntries}
-use Rattle.reply.proofs.Putting.{Left, left-start, left-more, left-end}
+use Rattle.reply.proofs.Putting.{Left, left-start, left-length, left-end, left-more}
 use Rattle.reply.proofs.Items.{devices-more, devices-room, devices-end}
 use borrow.Author.Needs.{needs}
 use Rattle.reply.proofs.lines.put_devices.Statement.{statement}
@@ -36,6 +36,9 @@ loop-less c = search needs
 loop-again : tie.Need-loop-again Inv-loop μ-loop
 loop-again c = search (left-more, devices-more)
 
+same-length : tie.Need-same-length Inv-loop μ-loop
+same-length c = search left-length
+
 returns : tie.Need-returns Inv-loop μ-loop
 returns c = search (left-end, devices-end)
 
@@ -51,4 +54,5 @@ put-devices-spec =
     add-device
     loop-less
     loop-again
+    same-length
     returns)

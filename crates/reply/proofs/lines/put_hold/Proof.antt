@@ -1,5 +1,9 @@
 -- `put_hold` meets its contract: the word, the entries, the end of the line (`line-puts`). Assumes nothing.
-use Rattle.reply.proofs.Putting.{word-room, items-room, close-room, line-puts}
+use mathlib.Core.List.{List}
+use Prim.Native.Nat.{ℕ}
+use native.Mathlib.Omega.{arith}
+use Rattle.reply.proofs.Putting.{line-puts}
+use Rattle.reply.proofs.Lengths.{entries-short}
 use borrow.Author.Needs.{needs}
 use Rattle.reply.proofs.lines.put_hold.Statement.{statement}
 use Rattle.reply.proofs.lines.put_hold.Tie as tie
@@ -8,13 +12,20 @@ slice-aggregate-put : tie.Need-slice-aggregate-put
 slice-aggregate-put c = search needs
 
 put-requires : tie.Need-put-requires
-put-requires c κs = search word-room
+put-requires c κs = search needs
+
+-- the plan room, as it was lent
+abbrev marks : tie.After-put-devices-arg → List ℕ
+marks c = c .before .before .before .before .before .before .before .args .plan .now
 
 put-devices-requires : tie.Need-put-devices-requires
-put-devices-requires c κs = search items-room
+put-devices-requires c κs = omega (arith, entries-short (marks c))
 
 close-line-requires : tie.Need-close-line-requires
-close-line-requires c κs = search close-room
+close-line-requires c κs = omega (arith, entries-short (marks (c .before .before .before .before)))
+
+same-length : tie.Need-same-length
+same-length c = search needs
 
 returns : tie.Need-returns
 returns c = search line-puts
@@ -27,4 +38,5 @@ put-hold-spec =
     put-requires
     put-devices-requires
     close-line-requires
+    same-length
     returns)

@@ -1,5 +1,6 @@
 -- `put_line` meets its contract: the word, the numbers, the end of the line (`line-puts`). Assumes nothing.
 use Rattle.reply.proofs.Putting.{word-room, items-room, close-room, line-puts}
+use borrow.Author.Needs.{needs}
 use Rattle.reply.proofs.lines.put_line.Statement.{statement}
 use Rattle.reply.proofs.lines.put_line.Tie as tie
 
@@ -12,6 +13,9 @@ put-numbers-requires c κs = search items-room
 close-line-requires : tie.Need-close-line-requires
 close-line-requires c κs = search close-room
 
+same-length : tie.Need-same-length
+same-length c = search needs
+
 returns : tie.Need-returns
 returns c = search line-puts
 
@@ -22,4 +26,5 @@ put-line-spec =
     put-requires
     put-numbers-requires
     close-line-requires
+    same-length
     returns)

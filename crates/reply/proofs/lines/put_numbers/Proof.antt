@@ -3,7 +3,7 @@ use Prim.Native.Nat.{_-_}
 use lib.ListN.{length, drop}
 use Rattle.typed.specs.Printing.{digitsOf}
 use Rattle.reply.specs.Printed.{spaced}
-use Rattle.reply.proofs.Putting.{Left, left-start, left-more, left-end}
+use Rattle.reply.proofs.Putting.{Left, left-start, left-length, left-end, left-more}
 use Rattle.reply.proofs.Items.{numbers-more, numbers-room, numbers-end}
 use borrow.Author.Needs.{needs}
 use Rattle.reply.proofs.lines.put_numbers.Statement.{statement}
@@ -41,6 +41,9 @@ loop-less c = search needs
 loop-again : tie.Need-loop-again Inv-loop μ-loop
 loop-again c = search (left-more, numbers-more)
 
+same-length : tie.Need-same-length Inv-loop μ-loop
+same-length c = search left-length
+
 returns : tie.Need-returns Inv-loop μ-loop
 returns c = search (left-end, numbers-end)
 
@@ -58,4 +61,5 @@ put-numbers-spec =
     add-i
     loop-less
     loop-again
+    same-length
     returns)

@@ -9,8 +9,17 @@ slice-aggregate-put c = search needs
 put-requires : tie.Need-put-requires
 put-requires c κs = search needs
 
+same-length : tie.Need-same-length
+same-length c = search needs
+
 returns : tie.Need-returns
 returns c = search needs
 
 pub close-line-spec : {M : Type 1} → statement M
-close-line-spec = tie.close (tie.spec slice-aggregate-put put-requires returns)
+close-line-spec =
+    tie.close
+    (tie.spec
+    slice-aggregate-put
+    put-requires
+    same-length
+    returns)

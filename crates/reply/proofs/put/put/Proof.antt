@@ -8,16 +8,17 @@ use borrow.Author.Needs.{needs}
 use Rattle.reply.proofs.put.put.Statement.{statement}
 use Rattle.reply.proofs.put.put.Tie as tie
 
--- Invariant: writing the bytes that are left leaves what writing all of them leaves; writing one takes it off the rest (`copy-more`).
+-- Invariant: writing the bytes that are left leaves what writing all of them leaves; writing one takes it off the rest (`copy-more`). The
+-- room is as long as it was.
 abbrev Inv-loop : tie.InvT-loop
-Inv-loop bytes at out₀ i₀ out i = sets out (at + i) (drop i bytes) ≡ sets out₀ at bytes
+Inv-loop bytes at out₀ i₀ out i = (sets out (at + i) (drop i bytes) ≡ sets out₀ at bytes) × (length out ≡ length out₀)
 
 -- Measure: the bytes left.
 abbrev μ-loop : tie.MeasureT-loop
 μ-loop bytes at out₀ i₀ out i = length bytes - i
 
 loop-holds : tie.Need-loop-holds Inv-loop μ-loop
-loop-holds c = search copy-start
+loop-holds c = (search copy-start, search needs)
 
 shared-slice-read-out : tie.Need-shared-slice-read-out Inv-loop μ-loop
 shared-slice-read-out c = search needs
@@ -25,8 +26,8 @@ shared-slice-read-out c = search needs
 add-out : tie.Need-add-out Inv-loop μ-loop
 add-out c = search needs
 
-element-write-out : tie.Need-element-write-out Inv-loop μ-loop
-element-write-out c = search needs
+slice-write-out : tie.Need-slice-write-out Inv-loop μ-loop
+slice-write-out c = search needs
 
 add-i : tie.Need-add-i Inv-loop μ-loop
 add-i c = search needs
@@ -35,10 +36,13 @@ loop-less : tie.Need-loop-less Inv-loop μ-loop
 loop-less c = search needs
 
 loop-again : tie.Need-loop-again Inv-loop μ-loop
-loop-again c = search copy-more
+loop-again c = (search copy-more, search needs)
 
 add-result : tie.Need-add-result Inv-loop μ-loop
 add-result c = search needs
+
+same-length : tie.Need-same-length Inv-loop μ-loop
+same-length c = search needs
 
 returns : tie.Need-returns Inv-loop μ-loop
 returns c = record { ends = search needs; leaves = search copy-end; fits = search needs }
@@ -52,9 +56,10 @@ put-spec =
     loop-holds
     shared-slice-read-out
     add-out
-    element-write-out
+    slice-write-out
     add-i
     loop-less
     loop-again
     add-result
+    same-length
     returns)

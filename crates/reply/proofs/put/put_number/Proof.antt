@@ -22,6 +22,9 @@ part-put-end c = search needs
 put-requires-2 : tie.Need-put-requires-2
 put-requires-2 c κs = search digits-room
 
+same-length : tie.Need-same-length
+same-length c = search needs
+
 returns : tie.Need-returns
 returns c = search number-puts
 
@@ -35,4 +38,5 @@ put-number-spec =
     part-put-start
     part-put-end
     put-requires-2
+    same-length
     returns)
