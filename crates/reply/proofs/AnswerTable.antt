@@ -1,8 +1,9 @@
 -- The table of known texts, by computation from the text to the lines that are printed (`rows-right`); large numbers
--- (`million-right`, `total-right`, `largest-right`), and the line of a budget that was spent (`spent-right`). Assumes nothing.
+-- (`million-right`, `five-billion-right`, `largest-of-64-right`), and the line of a budget that was spent (`spent-right`). Assumes nothing.
 use mathlib.Core.Path.{_≡_, refl, sym}
-use mathlib.Core.List.{[], _∷_, _++_, map}
+use mathlib.Core.List.{map}
 use lib.Dec.{lit≤, lit<}
+use Rattle.lists.specs.Bytes.{bytes}
 use Rattle.hall.specs.Hall.{holds, isFree, hold, meetsRule, meetsAll, firstUnmet}
 use Rattle.hall.specs.Order.{ifHeld, costOf, heldOf, heldFrom, less, rank, better}
 use Rattle.hall.specs.Walk.{keep, oneMore, closes, shut, still, after, entryBy, through, opening, nodeBy, node, walk, walkFrom, start, walkHall}
@@ -11,8 +12,8 @@ use Rattle.hall.specs.Reading.{times, rule, hall, decodeBy, decode}
 use Rattle.hall.specs.Answer.{spent, answer}
 use Rattle.typed.specs.Text as text
 use Rattle.typed.specs.Printing.{digitsBy, digitsOf}
-use Rattle.reply.specs.Printed.{spentWord, spaced, printedAnswer, printedFor}
-use Rattle.reply.specs.Table.{Row, output, rows, million, total, largest}
+use Rattle.reply.specs.Printed.{spaced, printedAnswer, printedFor}
+use Rattle.reply.specs.Table.{Row, output, rows, million, fiveBillion, largestOf64}
 use Rattle.reply.proofs.Digits.{decimal-is}
 
 pub rows-right : map output rows ≡ map (λ (r : Row). r .printed) rows
@@ -23,13 +24,13 @@ rows-right = refl
 pub million-right : digitsOf 1000000 ≡ million
 million-right = sym (decimal-is 1000000 7 (lit≤ tt, lit< tt, (λ l. lit≤ tt)))
 
-pub total-right : digitsOf 5000000000 ≡ total
-total-right = sym (decimal-is 5000000000 10 (lit≤ tt, lit< tt, (λ l. lit≤ tt)))
+pub five-billion-right : digitsOf 5000000000 ≡ fiveBillion
+five-billion-right = sym (decimal-is 5000000000 10 (lit≤ tt, lit< tt, (λ l. lit≤ tt)))
 
-pub largest-right : digitsOf 18446744073709551615 ≡ largest
-largest-right = sym (decimal-is 18446744073709551615 20 (lit≤ tt, lit< tt, (λ l. lit≤ tt)))
+pub largest-of-64-right : digitsOf 18446744073709551615 ≡ largestOf64
+largest-of-64-right = sym (decimal-is 18446744073709551615 20 (lit≤ tt, lit< tt, (λ l. lit≤ tt)))
 
--- "spent 1000000"
-pub spent-right : printedAnswer (spent 1000000) ≡ spentWord ++ ((32 ∷ million) ++ (10 ∷ []))
+-- the line of a budget that was spent
+pub spent-right : printedAnswer (spent 1000000) ≡ bytes "spent 1000000\n"
 unfolding spaced
 spent-right = rw million-right

@@ -5,14 +5,16 @@
 -- the rows are right is proofs/AnswerTable.
 use mathlib.Core.List.{List, [], _∷_}
 use Prim.Native.Nat.{ℕ}
+use Prim.Native.String.{String}
+use Rattle.lists.specs.Bytes.{bytes}
 use Rattle.reply.specs.Printed.{printedFor}
 
 pub record Row : Type 0 where
   pub text : List ℕ
   pub printed : List ℕ
 
-abbrev pub row : List ℕ → List ℕ → Row
-row text printed = record { text = text; printed = printed }
+abbrev pub row : String → String → Row
+row text printed = record { text = bytes text; printed = bytes printed }
 
 -- what the definitions print for a row
 abbrev pub output : Row → List ℕ
@@ -21,32 +23,32 @@ output r = printedFor (r .text)
 unfoldable pub rows : List Row
 rows =
     -- 01's own example
-    row (52 ∷ 32 ∷ 53 ∷ 32 ∷ 50 ∷ 32 ∷ 52 ∷ 32 ∷ 51 ∷ 10 ∷ 51 ∷ 10 ∷ 50 ∷ 32 ∷ 49 ∷ 32 ∷ 50 ∷ 10 ∷ 50 ∷ 32 ∷ 45 ∷ 50 ∷ 32 ∷ 51 ∷ 10 ∷ 50 ∷ 32 ∷ 45 ∷ 49 ∷ 32 ∷ 52 ∷ 10 ∷ []) (108 ∷ 101 ∷ 97 ∷ 115 ∷ 116 ∷ 32 ∷ 57 ∷ 32 ∷ 51 ∷ 32 ∷ 49 ∷ 48 ∷ 10 ∷ 104 ∷ 111 ∷ 108 ∷ 100 ∷ 32 ∷ 50 ∷ 32 ∷ 51 ∷ 32 ∷ 52 ∷ 10 ∷ [])
-    -- 0 0: nothing to hold, `hold` alone
-    ∷ row (48 ∷ 32 ∷ 48 ∷ []) (108 ∷ 101 ∷ 97 ∷ 115 ∷ 116 ∷ 32 ∷ 48 ∷ 32 ∷ 48 ∷ 32 ∷ 49 ∷ 10 ∷ 104 ∷ 111 ∷ 108 ∷ 100 ∷ 10 ∷ [])
-    -- 0 1 0: a rule that no plan meets
-    ∷ row (48 ∷ 32 ∷ 49 ∷ 32 ∷ 48 ∷ []) (110 ∷ 111 ∷ 110 ∷ 101 ∷ 32 ∷ 49 ∷ 10 ∷ [])
-    -- an entry below 0: 1 4 1 1 -1
-    ∷ row (49 ∷ 32 ∷ 52 ∷ 32 ∷ 49 ∷ 32 ∷ 49 ∷ 32 ∷ 45 ∷ 49 ∷ []) (108 ∷ 101 ∷ 97 ∷ 115 ∷ 116 ∷ 32 ∷ 52 ∷ 32 ∷ 49 ∷ 32 ∷ 50 ∷ 10 ∷ 104 ∷ 111 ∷ 108 ∷ 100 ∷ 32 ∷ 45 ∷ 49 ∷ 10 ∷ [])
-    -- a device held at 0 between two held at 1: 3 1 1 1 3 1 1 1 -2 1 3
-    ∷ row (51 ∷ 32 ∷ 49 ∷ 32 ∷ 49 ∷ 32 ∷ 49 ∷ 32 ∷ 51 ∷ 32 ∷ 49 ∷ 32 ∷ 49 ∷ 32 ∷ 49 ∷ 32 ∷ 45 ∷ 50 ∷ 32 ∷ 49 ∷ 32 ∷ 51 ∷ []) (108 ∷ 101 ∷ 97 ∷ 115 ∷ 116 ∷ 32 ∷ 51 ∷ 32 ∷ 51 ∷ 32 ∷ 52 ∷ 10 ∷ 104 ∷ 111 ∷ 108 ∷ 100 ∷ 32 ∷ 49 ∷ 32 ∷ 45 ∷ 50 ∷ 32 ∷ 51 ∷ 10 ∷ [])
+    row "4 5 2 4 3\n3\n2 1 2\n2 -2 3\n2 -1 4\n" "least 9 3 10\nhold 2 3 4\n"
+    -- nothing to hold: `hold` alone
+    ∷ row "0 0" "least 0 0 1\nhold\n"
+    -- a rule that no plan meets
+    ∷ row "0 1 0" "none 1\n"
+    -- an entry below 0
+    ∷ row "1 4 1 1 -1" "least 4 1 2\nhold -1\n"
+    -- a device held at 0 between two held at 1
+    ∷ row "3 1 1 1 3 1 1 1 -2 1 3" "least 3 3 4\nhold 1 -2 3\n"
     -- an empty text; blanks only
-    ∷ row [] (114 ∷ 101 ∷ 102 ∷ 117 ∷ 115 ∷ 101 ∷ 100 ∷ 32 ∷ 49 ∷ 49 ∷ 32 ∷ 48 ∷ 10 ∷ [])
-    ∷ row (32 ∷ 32 ∷ 10 ∷ []) (114 ∷ 101 ∷ 102 ∷ 117 ∷ 115 ∷ 101 ∷ 100 ∷ 32 ∷ 49 ∷ 49 ∷ 32 ∷ 48 ∷ 10 ∷ [])
-    -- a sheet that is refused: 201; 1 5 0 7
-    ∷ row (50 ∷ 48 ∷ 49 ∷ []) (114 ∷ 101 ∷ 102 ∷ 117 ∷ 115 ∷ 101 ∷ 100 ∷ 32 ∷ 49 ∷ 50 ∷ 32 ∷ 48 ∷ 10 ∷ [])
-    ∷ row (49 ∷ 32 ∷ 53 ∷ 32 ∷ 48 ∷ 32 ∷ 55 ∷ []) (114 ∷ 101 ∷ 102 ∷ 117 ∷ 115 ∷ 101 ∷ 100 ∷ 32 ∷ 49 ∷ 53 ∷ 32 ∷ 51 ∷ 10 ∷ [])
-    -- a text that is refused: 0 x; 0 2147483648
-    ∷ row (48 ∷ 32 ∷ 120 ∷ []) (114 ∷ 101 ∷ 102 ∷ 117 ∷ 115 ∷ 101 ∷ 100 ∷ 32 ∷ 50 ∷ 49 ∷ 32 ∷ 50 ∷ 10 ∷ [])
-    ∷ row (48 ∷ 32 ∷ 50 ∷ 49 ∷ 52 ∷ 55 ∷ 52 ∷ 56 ∷ 51 ∷ 54 ∷ 52 ∷ 56 ∷ []) (114 ∷ 101 ∷ 102 ∷ 117 ∷ 115 ∷ 101 ∷ 100 ∷ 32 ∷ 50 ∷ 50 ∷ 32 ∷ 50 ∷ 10 ∷ [])
+    ∷ row "" "refused 11 0\n"
+    ∷ row "  \n" "refused 11 0\n"
+    -- a sheet that is refused: too many devices; a word behind the last rule
+    ∷ row "201" "refused 12 0\n"
+    ∷ row "1 5 0 7" "refused 15 3\n"
+    -- a text that is refused: a wrong byte; a number outside the words
+    ∷ row "0 x" "refused 21 2\n"
+    ∷ row "0 2147483648" "refused 22 2\n"
     ∷ []
 
--- numbers that are too large to be counted down: 1,000,000, what `spent` prints; 01's largest total; the largest of 64 bits
+-- numbers that are too large to be counted down: what `spent` prints; 01's largest total; the largest of 64 bits
 abbrev pub million : List ℕ
-million = 49 ∷ 48 ∷ 48 ∷ 48 ∷ 48 ∷ 48 ∷ 48 ∷ []
+million = bytes "1000000"
 
-abbrev pub total : List ℕ
-total = 53 ∷ 48 ∷ 48 ∷ 48 ∷ 48 ∷ 48 ∷ 48 ∷ 48 ∷ 48 ∷ 48 ∷ []
+abbrev pub fiveBillion : List ℕ
+fiveBillion = bytes "5000000000"
 
-abbrev pub largest : List ℕ
-largest = 49 ∷ 56 ∷ 52 ∷ 52 ∷ 54 ∷ 55 ∷ 52 ∷ 52 ∷ 48 ∷ 55 ∷ 51 ∷ 55 ∷ 48 ∷ 57 ∷ 53 ∷ 53 ∷ 49 ∷ 54 ∷ 49 ∷ 53 ∷ []
+abbrev pub largestOf64 : List ℕ
+largestOf64 = bytes "18446744073709551615"
