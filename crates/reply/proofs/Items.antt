@@ -9,6 +9,7 @@ use native.Mathlib.Omega.{arith}
 use lib.ListN.{length, getD, take, drop, drop-of-length-le, length-take}
 use lib.IntN.{ℤ, pos, negsuc}
 use lib.Seq.{drop-cons, getD-take}
+use Rattle.lists.specs.Bytes.{bytes}
 use Rattle.hall.specs.Hall.{Entry}
 use Rattle.hall.specs.Order.{heldBy, heldFrom, heldEntries}
 use Rattle.hall.specs.Ranges.{wordsOf, entryWords}
@@ -19,15 +20,15 @@ use Rattle.reply.proofs.Putting.{Left, left-room}
 
 -- ── numbers ──
 pub numbers-more : (numbers : List ℕ) (i : ℕ) → i < length numbers
-    → spaced digitsOf (drop i numbers) ≡ ((32 ∷ []) ++ digitsOf (getD numbers i 0)) ++ spaced digitsOf (drop (i + 1) numbers)
+    → spaced digitsOf (drop i numbers) ≡ (bytes " " ++ digitsOf (getD numbers i 0)) ++ spaced digitsOf (drop (i + 1) numbers)
 unfolding spaced
 numbers-more numbers i h = rw add-one (ap (spaced digitsOf) (drop-cons numbers i 0 h))
 
 pub numbers-room : (numbers : List ℕ) (i at : ℕ) (before : List ℕ) (next : ℕ) (out : List ℕ)
     → Left (spaced digitsOf (drop i numbers)) (spaced digitsOf numbers) at before next out → i < length numbers → Fits (spaced digitsOf numbers) at before
-    → Fits ((32 ∷ []) ++ digitsOf (getD numbers i 0)) next out
+    → Fits (bytes " " ++ digitsOf (getD numbers i 0)) next out
 numbers-room numbers i at before next out left h fits =
-    left-room _ _ at before next out left ((32 ∷ []) ++ digitsOf (getD numbers i 0)) (spaced digitsOf (drop (i + 1) numbers)) (numbers-more numbers i h) fits
+    left-room _ _ at before next out left (bytes " " ++ digitsOf (getD numbers i 0)) (spaced digitsOf (drop (i + 1) numbers)) (numbers-more numbers i h) fits
 
 pub numbers-end : (numbers : List ℕ) (i : ℕ) → length numbers ≤ i → spaced digitsOf (drop i numbers) ≡ []
 unfolding spaced
@@ -37,7 +38,7 @@ numbers-end numbers i h = ap (spaced digitsOf) (drop-of-length-le numbers h)
 -- one item, and one device, in front of the others
 one-item : (z : ℤ) (zs : List ℤ) → spaced printedWord (z ∷ zs) ≡ spaced printedWord (z ∷ []) ++ spaced printedWord zs
 unfolding spaced
-one-item z zs = ap (λ (l : List ℕ). 32 ∷ (l ++ spaced printedWord zs)) (sym (append-nil (printedWord z)))
+one-item z zs = ap (λ (l : List ℕ). bytes " " ++ (l ++ spaced printedWord zs)) (sym (append-nil (printedWord z)))
 
 device-one : (x v : ℕ) (es : List Entry) → printedEntries (heldBy x v es) ≡ printedEntries (heldBy x v []) ++ printedEntries es
 unfolding spaced wordsOf
@@ -47,14 +48,14 @@ device-one (suc (suc zero)) v es = one-item (negsuc v) (wordsOf entryWords es)
 device-one (suc (suc (suc x))) v es = refl
 
 -- by its mark: at position 1, at position 0, not held
-module _ (x v : ℕ) where
-  text-1 : x ≡ 1 → printedEntries (heldBy x v []) ≡ (32 ∷ []) ++ digitsOf (v + 1)
+module _ {x : ℕ} (v : ℕ) where
+  text-1 : x ≡ 1 → printedEntries (heldBy x v []) ≡ bytes " " ++ digitsOf (v + 1)
   unfolding spaced wordsOf
-  text-1 e = rw (e, add-one) (ap (λ (l : List ℕ). 32 ∷ l) (append-nil (digitsOf (suc v))))
+  text-1 e = rw (e, add-one) (ap (λ (l : List ℕ). bytes " " ++ l) (append-nil (digitsOf (suc v))))
 
-  text-2 : x ≡ 2 → printedEntries (heldBy x v []) ≡ (32 ∷ 45 ∷ []) ++ digitsOf (v + 1)
+  text-2 : x ≡ 2 → printedEntries (heldBy x v []) ≡ bytes " -" ++ digitsOf (v + 1)
   unfolding spaced wordsOf
-  text-2 e = rw (e, add-one) (ap (λ (l : List ℕ). 32 ∷ 45 ∷ l) (append-nil (digitsOf (suc v))))
+  text-2 e = rw (e, add-one) (ap (λ (l : List ℕ). bytes " -" ++ l) (append-nil (digitsOf (suc v))))
 
   pub long-1 : x ≡ 1 → length (printedEntries (heldBy x v [])) ≡ 1 + length (digitsOf (v + 1))
   long-1 e = omega (arith, ap length (text-1 e))
@@ -63,10 +64,10 @@ module _ (x v : ℕ) where
   long-2 e = omega (arith, ap length (text-2 e))
 
   module _ (at : ℕ) (before : List ℕ) (r : ℕ) (after : List ℕ) where
-    pub puts-1 : x ≡ 1 → Puts ((32 ∷ []) ++ digitsOf (v + 1)) at before r after → Puts (printedEntries (heldBy x v [])) at before r after
+    pub puts-1 : x ≡ 1 → Puts (bytes " " ++ digitsOf (v + 1)) at before r after → Puts (printedEntries (heldBy x v [])) at before r after
     puts-1 e p = rw (text-1 e) p
 
-    pub puts-2 : x ≡ 2 → Puts ((32 ∷ 45 ∷ []) ++ digitsOf (v + 1)) at before r after → Puts (printedEntries (heldBy x v [])) at before r after
+    pub puts-2 : x ≡ 2 → Puts (bytes " -" ++ digitsOf (v + 1)) at before r after → Puts (printedEntries (heldBy x v [])) at before r after
     puts-2 e p = rw (text-2 e) p
 
 pub puts-none : (x v at : ℕ) (before : List ℕ) → (x ≡ 1 → ⊥) → (x ≡ 2 → ⊥) → Fits (printedEntries (heldBy x v [])) at before

@@ -1,15 +1,16 @@
 -- Everything that is printed has place in a room of 1,024 bytes: the lines of none and spent (`none-fits`, `spent-fits`), of a refusal
--- (`refused-fits`), of a least plan (`least-fits`), at most 49 bytes; and behind that (`hold-fits`) the line of the held devices, at most
--- 897: its entries and its byte 10 (`entries-fit`, `close-fits`). Assumes nothing.
+-- (`refused-fits`), of a least plan (`least-fits`), at most 49 bytes; the entries of the held devices (`entries-short`), at most 892, in a
+-- line of 897, and the room that is left for that line (`hold-fits`). Assumes nothing.
 use mathlib.Core.Path.{_≡_, refl}
 use mathlib.Core.List.{List, [], _∷_, _++_}
 use Prim.Native.Nat.{ℕ, zero, suc, _+_, _^_, _≤_, _<_}
 use native.Mathlib.Omega.{arith}
 use lib.ListN.{length, take, length-append, length-take}
+use Rattle.lists.specs.Bytes.{bytes}
 use Rattle.hall.specs.Order.{heldBy, heldFrom, heldEntries}
 use Rattle.hall.specs.Ranges.{wordsOf}
 use Rattle.typed.specs.Printing.{digitsBy, digitsOf}
-use Rattle.reply.specs.Printed.{leastWord, noneWord, spentWord, refusedWord, refusedLine, spaced, line, printedEntries}
+use Rattle.reply.specs.Printed.{lineEnd, refusedLine, spaced, line, printedEntries}
 use Rattle.reply.specs.Contract.{Fits, Puts}
 use Rattle.typed.proofs.Printed.{digits-few}
 use Rattle.reply.proofs.Putting.{puts-length}
@@ -29,7 +30,7 @@ unfolding spaced
 one-more n numbers = omega (arith, length-append (digitsOf n) (spaced digitsOf numbers))
 
 line-size : (word numbers : List ℕ) → length (line word digitsOf numbers) ≡ length word + length (spaced digitsOf numbers) + 1
-line-size word numbers = omega (arith, length-append word (spaced digitsOf numbers ++ (10 ∷ [])), length-append (spaced digitsOf numbers) (10 ∷ []))
+line-size word numbers = omega (arith, length-append word (spaced digitsOf numbers ++ lineEnd), length-append (spaced digitsOf numbers) lineEnd)
 
 no-more : length (spaced digitsOf []) ≡ 0
 unfolding spaced
@@ -39,22 +40,22 @@ module _ (room : List ℕ) (size : length room ≡ 1024) where
   count-fits : (word : List ℕ) (opened : ℕ) → length word ≤ 7 → opened < 2 ^ 32 → Fits (line word digitsOf (opened ∷ [])) 0 room
   count-fits word opened w h = omega (arith, line-size word (opened ∷ []), one-more opened [], no-more, short-32 opened h)
 
-  pub none-fits : (opened : ℕ) → opened < 2 ^ 32 → Fits (line noneWord digitsOf (opened ∷ [])) 0 room
-  none-fits opened h = count-fits noneWord opened (omega arith) h
+  pub none-fits : (opened : ℕ) → opened < 2 ^ 32 → Fits (line (bytes "none") digitsOf (opened ∷ [])) 0 room
+  none-fits opened h = count-fits (bytes "none") opened (omega arith) h
 
-  pub spent-fits : (opened : ℕ) → opened < 2 ^ 32 → Fits (line spentWord digitsOf (opened ∷ [])) 0 room
-  spent-fits opened h = count-fits spentWord opened (omega arith) h
+  pub spent-fits : (opened : ℕ) → opened < 2 ^ 32 → Fits (line (bytes "spent") digitsOf (opened ∷ [])) 0 room
+  spent-fits opened h = count-fits (bytes "spent") opened (omega arith) h
 
 -- of any two numbers
 pub refused-fits : (room : List ℕ) (code place : ℕ) → 1024 ≤ length room → code < 2 ^ 64 → place < 2 ^ 64 → Fits (refusedLine code place) 0 room
 refused-fits room code place large x y =
-    omega (arith, line-size refusedWord (code ∷ place ∷ []), one-more code (place ∷ []), one-more place [], no-more, short-64 code x, short-64 place y)
+    omega (arith, line-size (bytes "refused") (code ∷ place ∷ []), one-more code (place ∷ []), one-more place [], no-more, short-64 code x, short-64 place y)
 
-least-short : (cost held opened : ℕ) → cost < 2 ^ 64 → held < 2 ^ 32 → opened < 2 ^ 32 → length (line leastWord digitsOf (cost ∷ held ∷ opened ∷ [])) ≤ 49
+least-short : (cost held opened : ℕ) → cost < 2 ^ 64 → held < 2 ^ 32 → opened < 2 ^ 32 → length (line (bytes "least") digitsOf (cost ∷ held ∷ opened ∷ [])) ≤ 49
 least-short cost held opened x y z =
     omega (
       arith,
-      line-size leastWord (cost ∷ held ∷ opened ∷ []),
+      line-size (bytes "least") (cost ∷ held ∷ opened ∷ []),
       one-more cost (held ∷ opened ∷ []),
       one-more held (opened ∷ []),
       one-more opened [],
@@ -65,7 +66,7 @@ least-short cost held opened x y z =
     )
 
 pub least-fits : (room : List ℕ) (cost held opened : ℕ) → length room ≡ 1024 → cost < 2 ^ 64 → held < 2 ^ 32 → opened < 2 ^ 32
-    → Fits (line leastWord digitsOf (cost ∷ held ∷ opened ∷ [])) 0 room
+    → Fits (line (bytes "least") digitsOf (cost ∷ held ∷ opened ∷ [])) 0 room
 least-fits room cost held opened size x y z = omega (arith, least-short cost held opened x y z)
 
 -- ── the held devices ──
@@ -95,6 +96,6 @@ pub entries-short : (plan : List ℕ) → length (printedEntries (heldEntries (t
 entries-short plan = omega (arith, devices-short 0 200 (take 200 plan) (omega (arith, length-take 200 plan)), all-devices)
 
 pub hold-fits : (cost held opened : ℕ) (before : List ℕ) (next : ℕ) (out : List ℕ) → cost < 2 ^ 64 → held < 2 ^ 32 → opened < 2 ^ 32 → length before ≡ 1024
-    → Puts (line leastWord digitsOf (cost ∷ held ∷ opened ∷ [])) 0 before next out → next + 975 ≤ length out
+    → Puts (line (bytes "least") digitsOf (cost ∷ held ∷ opened ∷ [])) 0 before next out → next + 975 ≤ length out
 hold-fits cost held opened before next out x y z size p =
     omega (arith, p .ends, least-short cost held opened x y z, puts-length _ 0 before next out p)

@@ -6,13 +6,14 @@ use Prim.Native.Nat.{ℕ}
 use native.Mathlib.Omega.{arith}
 use lib.ListN.{length, take, drop}
 use Rattle.lists.specs.Lists.{inFront}
+use Rattle.lists.specs.Bytes.{bytes}
 use Rattle.lists.proofs.InFront.{front-stands, rest-stays, sets-in-front}
 use Rattle.sheet.specs.Contract.{refusalCode}
 use Rattle.sheet.specs.declared.Refusal.{Refusal}
 use Rattle.typed.specs.Printing.{digitsOf}
 use Rattle.search.specs.declared.Answer.{Answer}
 use Rattle.search.specs.declared.Answer.the-variants.{Least, None, Spent, Refused}
-use Rattle.reply.specs.Printed.{leastWord, noneWord, spentWord, line, holdLine, refusedLine}
+use Rattle.reply.specs.Printed.{line, holdLine, refusedLine}
 use Rattle.reply.specs.Contract.{Puts, linesOf, Prints}
 use Rattle.reply.proofs.Putting.{puts-then}
 
@@ -35,16 +36,16 @@ module _ (answer : Answer) (plan before : List ℕ) (r : ℕ) (after : List ℕ)
       record { size = size; says = says; fits = omega (arith, p .fits); room = room; front = both .0; rest = both .1 }
 
   pub prints-least : (cost held opened next : ℕ) (out : List ℕ) → answer ≡ Least cost held opened
-      → Puts (line leastWord digitsOf (cost ∷ held ∷ opened ∷ [])) 0 before next out → Puts (holdLine (take 200 plan)) next out r after
+      → Puts (line (bytes "least") digitsOf (cost ∷ held ∷ opened ∷ [])) 0 before next out → Puts (holdLine (take 200 plan)) next out r after
       → Prints answer plan before r after
   prints-least cost held opened next out e p q =
-      prints (line leastWord digitsOf (cost ∷ held ∷ opened ∷ []) ++ holdLine (take 200 plan)) (rw e) (puts-then _ (holdLine (take 200 plan)) 0 before next out r after p q)
+      prints (line (bytes "least") digitsOf (cost ∷ held ∷ opened ∷ []) ++ holdLine (take 200 plan)) (rw e) (puts-then _ (holdLine (take 200 plan)) 0 before next out r after p q)
 
-  pub prints-none : (opened : ℕ) → answer ≡ None opened → Puts (line noneWord digitsOf (opened ∷ [])) 0 before r after → Prints answer plan before r after
-  prints-none opened e p = prints (line noneWord digitsOf (opened ∷ [])) (rw e) p
+  pub prints-none : (opened : ℕ) → answer ≡ None opened → Puts (line (bytes "none") digitsOf (opened ∷ [])) 0 before r after → Prints answer plan before r after
+  prints-none opened e p = prints (line (bytes "none") digitsOf (opened ∷ [])) (rw e) p
 
-  pub prints-spent : (opened : ℕ) → answer ≡ Spent opened → Puts (line spentWord digitsOf (opened ∷ [])) 0 before r after → Prints answer plan before r after
-  prints-spent opened e p = prints (line spentWord digitsOf (opened ∷ [])) (rw e) p
+  pub prints-spent : (opened : ℕ) → answer ≡ Spent opened → Puts (line (bytes "spent") digitsOf (opened ∷ [])) 0 before r after → Prints answer plan before r after
+  prints-spent opened e p = prints (line (bytes "spent") digitsOf (opened ∷ [])) (rw e) p
 
   pub prints-refused : (kind : Refusal) (code place : ℕ) → answer ≡ Refused kind place → code ≡ refusalCode kind → Puts (refusedLine code place) 0 before r after
       → Prints answer plan before r after

@@ -15,6 +15,7 @@ use lib.Seq.{sets, length-sets, drop-cons}
 use Rattle.io.specs.Digits.{digits, Fewest}
 use Rattle.typed.specs.Printing.{digitsOf}
 use Rattle.lists.proofs.InFront.{sets-append}
+use Rattle.reply.specs.Printed.{lineEnd}
 use Rattle.reply.specs.Contract.{Fits, Puts}
 use Rattle.reply.proofs.Digits.{decimal-is}
 
@@ -65,9 +66,9 @@ module _ (front : List ℕ) (n at : ℕ) (before : List ℕ) (fits : Fits (front
     number-puts r after q = puts-then front (digitsOf n) at before next out r after p (rw (sub-zero, spelled, decimal-is n k few) at q)
 
 -- ── a word, its items and the byte 10 ──
-module _ (word items : List ℕ) (at : ℕ) (before : List ℕ) (fits : Fits (word ++ (items ++ (10 ∷ []))) at before) where
-  size : length (word ++ (items ++ (10 ∷ []))) ≡ length word + (length items + 1)
-  size = length-append word (items ++ (10 ∷ [])) ∙ ap (λ (n : ℕ). length word + n) (length-append items (10 ∷ []))
+module _ (word items : List ℕ) (at : ℕ) (before : List ℕ) (fits : Fits (word ++ (items ++ lineEnd)) at before) where
+  size : length (word ++ (items ++ lineEnd)) ≡ length word + (length items + 1)
+  size = length-append word (items ++ lineEnd) ∙ ap (λ (n : ℕ). length word + n) (length-append items lineEnd)
 
   pub word-room : Fits word at before
   word-room = omega (arith, size)
@@ -76,14 +77,14 @@ module _ (word items : List ℕ) (at : ℕ) (before : List ℕ) (fits : Fits (wo
     pub items-room : Fits items first begun
     items-room = omega (arith, size, p .ends, puts-length word at before first begun p)
 
-    pub close-room : (next : ℕ) (out : List ℕ) → Puts items first begun next out → Fits (10 ∷ []) next out
+    pub close-room : (next : ℕ) (out : List ℕ) → Puts items first begun next out → Fits lineEnd next out
     close-room next out q = omega (arith, size, p .ends, q .ends, puts-length word at before first begun p, puts-length items first begun next out q)
 
 pub line-puts : (word items : List ℕ) (at : ℕ) (before : List ℕ) (first : ℕ) (begun : List ℕ) (next : ℕ) (out : List ℕ) (r : ℕ) (after : List ℕ)
-    → Puts word at before first begun → Puts items first begun next out → Puts (10 ∷ []) next out r after
-    → Puts (word ++ (items ++ (10 ∷ []))) at before r after
+    → Puts word at before first begun → Puts items first begun next out → Puts lineEnd next out r after
+    → Puts (word ++ (items ++ lineEnd)) at before r after
 line-puts word items at before first begun next out r after p q s =
-    puts-then word (items ++ (10 ∷ [])) at before first begun r after p (puts-then items (10 ∷ []) first begun next out r after q s)
+    puts-then word (items ++ lineEnd) at before first begun r after p (puts-then items lineEnd first begun next out r after q s)
 
 -- ── items of which some are left ──
 -- `rest` is left to put of `whole`, which begins at `at`: put from `next` on, it leaves what the whole leaves

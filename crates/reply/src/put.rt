@@ -1,6 +1,7 @@
 // Bytes and digits, put into the lent room from a place on. Each function gives the place behind what it put.
-ghost use mathlib.Core.List.{[], _∷_, _++_};
+ghost use mathlib.Core.List.{_++_};
 ghost use Rattle.typed.specs.Printing.{digitsOf};
+ghost use Rattle.reply.specs.Printed.{lineEnd};
 ghost use Rattle.reply.specs.Contract.{Fits, Puts};
 
 // Everything that is printed comes into the room here.
@@ -29,8 +30,8 @@ pub(crate) fn put_number(front: &[u8], n: u64, at: usize, out: &mut [u8]) -> usi
 
 // 01, "each line closed by byte 10".
 pub(crate) fn close_line(at: usize, out: &mut [u8]) -> usize
-    requires { ⌜ Fits (10 ∷ []) at (now out) ⌝ }
-    ensures { λ r. ⌜ Puts (10 ∷ []) at (now (out .entry)) r (now (out .exit)) ⌝ }
+    requires { ⌜ Fits lineEnd at (now out) ⌝ }
+    ensures { λ r. ⌜ Puts lineEnd at (now (out .entry)) r (now (out .exit)) ⌝ }
 {
     put(b"\n", at, out)
 }

@@ -12,7 +12,7 @@ add-put-number : tie.Need-add-put-number
 add-put-number c = search needs
 
 put-number-requires : tie.Need-put-number-requires
-put-number-requires c κs = omega (arith, long-1 (c .before .before .before .before .args .mark) (c .before .before .before .before .args .device) (c .before .before .if1 .taken))
+put-number-requires c κs = omega (arith, long-1 (c .before .before .before .before .args .device) (c .before .before .if1 .taken))
 
 same-length : tie.Need-same-length
 same-length c = search needs
@@ -27,7 +27,7 @@ add-put-number-2 : tie.Need-add-put-number-2
 add-put-number-2 c = search needs
 
 put-number-requires-2 : tie.Need-put-number-requires-2
-put-number-requires-2 c κs = omega (arith, long-2 (c .before .before .before .before .before .args .mark) (c .before .before .before .before .before .args .device) (c .before .before .if2 .taken))
+put-number-requires-2 c κs = omega (arith, long-2 (c .before .before .before .before .before .args .device) (c .before .before .if2 .taken))
 
 same-length-2 : tie.Need-same-length-2
 same-length-2 c = search needs
