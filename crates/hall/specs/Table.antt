@@ -5,7 +5,8 @@
 use mathlib.Core.List.{List, [], _∷_, _++_}
 use Prim.Native.Nat.{ℕ, zero, suc}
 use lib.ListN.{replicate}
-use lib.IntN.{ℤ, pos, negsuc}
+use lib.IntN.{ℤ}
+use Rattle.lists.specs.Words.{+, -}
 use Rattle.hall.specs.Hall.{at1, Rule, Hall}
 use Rattle.hall.specs.Order.{heldEntries}
 use Rattle.hall.specs.Ranges.{wordsOf, entryWords}
@@ -34,14 +35,6 @@ writtenOf a = record { told = numbers a; hold = holding a }
 -- what the definitions say for a row
 unfoldable pub written : Row → Written
 written r = writtenOf (answer (r .sheet) (r .budget) (r .room))
-
--- the words +v and -v; -0 is the word 0
-abbrev + : ℕ → ℤ
-+ v = pos v
-
-abbrev - : ℕ → ℤ
-- zero = pos 0
-- (suc v) = negsuc v
 
 -- "Budget 1,000 unless named", and a plan room of 200 bytes unless named
 abbrev pub under : ℕ → ℕ → List ℤ → List ℕ → List ℤ → Row

@@ -13,7 +13,6 @@ use lib.Seq.{take-all, take-append-seam}
 use lib.IntN.{ℤ}
 use Rattle.lists.specs.Lists.{inFront}
 use Rattle.hall.specs.Order.{heldBy, heldFrom, heldEntries}
-use Rattle.hall.specs.Reading.{faultCode}
 use Rattle.hall.specs.Answer as hall
 use Rattle.hall.specs.Answer.{answer, numbers, roomAfter}
 use Rattle.typed.specs.Text as text
@@ -25,11 +24,10 @@ use Rattle.typed.specs.declared.Reading.{Reading}
 use Rattle.typed.specs.declared.Reading.the-variants.{Words}
 use Rattle.typed.specs.declared.Reading.the-variants.{Refused as Refusal}
 use Rattle.typed.proofs.Only.{numbers-injective}
-use Rattle.sheet.specs.Contract.{faultOf, refusalCode}
+use Rattle.sheet.proofs.Decoding.{fault-kind}
 use Rattle.search.specs.Contract.{numbersOf, Finds}
-use Rattle.search.proofs.Finds.{code-large}
+use Rattle.search.proofs.Finds.{Matches, match}
 use Rattle.search.specs.declared.Answer.{Answer}
-use Rattle.search.specs.declared.Answer.the-variants.{Least, None, Spent, Refused}
 use Rattle.reply.specs.Printed.{refusedLine, printedAnswer, printedReading, printedFor}
 use Rattle.reply.specs.Contract.{Puts, linesOf, Prints, Replies}
 use Rattle.reply.proofs.Prints.{put-in-front, front-and-rest}
@@ -53,30 +51,14 @@ held-room plan after e l =
 
 -- ── the same numbers, the same lines ──
 module _ (after : List ℕ) (short : length after ≤ 200) where
+  same-case : (r : Answer) (a : hall.Answer) → Matches r a → after ≡ roomAfter a (replicate 200 0) → linesOf r after ≡ printedAnswer a
+  same-case r (hall.least cost held opened plan) m room = rw (m, held-room plan after room short)
+  same-case r (hall.none opened) m room = rw m
+  same-case r (hall.spent opened) m room = rw m
+  same-case r (hall.refused f place) m room = rw (m, fault-kind f)
+
   same-lines : (r : Answer) (a : hall.Answer) → numbersOf r ≡ numbers a → after ≡ roomAfter a (replicate 200 0) → linesOf r after ≡ printedAnswer a
-  same-lines (Least c h o) (hall.least c′ h′ o′ plan) e room =
-      let x : c ≡ c′ = cc in
-      let y : h ≡ h′ = cc in
-      let z : o ≡ o′ = cc in
-      rw (x, y, z, held-room plan after room short)
-  same-lines (None o) (hall.none o′) e room = let z : o ≡ o′ = cc in rw z
-  same-lines (Spent o) (hall.spent o′) e room = let z : o ≡ o′ = cc in rw z
-  same-lines (Refused k i) (hall.refused f j) e room =
-      let x : refusalCode k ≡ faultCode f = cc in
-      let y : i ≡ j = cc in
-      rw (x, y)
-  same-lines (Least c h o) (hall.none o′) e room = absurd (let z : _≡_ {A = ℕ} 0 1 = cc in omega arith)
-  same-lines (Least c h o) (hall.spent o′) e room = absurd (let z : _≡_ {A = ℕ} 0 1 = cc in omega arith)
-  same-lines (Least c h o) (hall.refused f j) e room = absurd (let z : _≡_ {A = ℕ} 0 1 = cc in omega arith)
-  same-lines (None o) (hall.least c′ h′ o′ plan) e room = absurd (let z : _≡_ {A = ℕ} 0 1 = cc in omega arith)
-  same-lines (None o) (hall.spent o′) e room = absurd (let z : _≡_ {A = ℕ} 1 2 = cc in omega arith)
-  same-lines (None o) (hall.refused f j) e room = absurd (let z : 1 ≡ faultCode f = cc in omega (arith, code-large f))
-  same-lines (Spent o) (hall.least c′ h′ o′ plan) e room = absurd (let z : _≡_ {A = ℕ} 0 1 = cc in omega arith)
-  same-lines (Spent o) (hall.none o′) e room = absurd (let z : _≡_ {A = ℕ} 2 1 = cc in omega arith)
-  same-lines (Spent o) (hall.refused f j) e room = absurd (let z : 2 ≡ faultCode f = cc in omega (arith, code-large f))
-  same-lines (Refused k i) (hall.least c′ h′ o′ plan) e room = absurd (let z : _≡_ {A = ℕ} 0 1 = cc in omega arith)
-  same-lines (Refused k i) (hall.none o′) e room = absurd (let z : refusalCode k ≡ 1 = cc in omega (arith, code-large (faultOf k)))
-  same-lines (Refused k i) (hall.spent o′) e room = absurd (let z : refusalCode k ≡ 2 = cc in omega (arith, code-large (faultOf k)))
+  same-lines r a e room = same-case r a (match r a e) room
 
 -- ── a text that was read ──
 -- the words that were read, by the reader's contract

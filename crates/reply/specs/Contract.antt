@@ -1,7 +1,7 @@
 -- The contracts of `print_answer` and `answer`, and of the functions that put bytes into the lent room.
 --
--- In order: bytes that fit a room, and the room after they were put there, as the stores that were made; an answer and a plan room as
--- the answer that is printed; the two contracts, in which lines stand in front of the room and the rest is unchanged. Definitions
+-- In order: bytes that fit a room, and the room after they were put there, as the stores that were made; the lines
+-- of an answer and a plan room; the two contracts, in which lines stand in front of the room and the rest is unchanged. Definitions
 -- only.
 use mathlib.Core.Path.{_≡_}
 use mathlib.Core.List.{List}
@@ -9,10 +9,8 @@ use Prim.Native.Nat.{ℕ, _+_, _≤_}
 use lib.ListN.{length, take, drop}
 use lib.Seq.{sets}
 use Rattle.lists.specs.Lists.{inFront}
-use Rattle.hall.specs.Answer as hall
-use Rattle.sheet.specs.Contract.{faultOf}
 use Rattle.search.specs.declared.Answer.{Answer}
-use Rattle.search.specs.declared.Answer.the-variants.{Least, None, Spent, Refused}
+use Rattle.search.specs.Contract.{answerOf}
 use Rattle.reply.specs.Printed.{printedAnswer, printedFor}
 
 -- bytes have place in a room from a place on
@@ -24,13 +22,6 @@ pub record Puts (bytes : List ℕ) (at : ℕ) (before : List ℕ) (r : ℕ) (aft
   pub ends : r ≡ at + length bytes
   pub leaves : after ≡ sets before at bytes
   pub fits : r ≤ length before
-
--- an answer of the search, with the plan in its room, as the definitions have it
-abbrev pub answerOf : Answer → List ℕ → hall.Answer
-answerOf (Least cost held opened) plan = hall.least cost held opened plan
-answerOf (None opened) plan = hall.none opened
-answerOf (Spent opened) plan = hall.spent opened
-answerOf (Refused kind place) plan = hall.refused (faultOf kind) place
 
 -- the lines of an answer, of a plan room of 200 marks
 abbrev pub linesOf : Answer → List ℕ → List ℕ

@@ -34,7 +34,7 @@ Matches r (hall.none opened) = r ≡ None opened
 Matches r (hall.spent opened) = r ≡ Spent opened
 Matches r (hall.refused f place) = r ≡ Refused (kindOf f) place
 
-pub code-large : (f : Fault) → 11 ≤ faultCode f
+code-large : (f : Fault) → 11 ≤ faultCode f
 code-large tooShort = omega arith
 code-large badCount = omega arith
 code-large badCost = omega arith

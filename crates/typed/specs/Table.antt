@@ -4,11 +4,12 @@
 -- words and how they are printed. A text of more than 60,000 bytes is no row: 23 is a theorem (proofs/Verdicts). Definitions only;
 -- that the rows are right is proofs/AnswerTable.
 use mathlib.Core.List.{List, [], _∷_}
-use Prim.Native.Nat.{ℕ, zero, suc}
+use Prim.Native.Nat.{ℕ}
 use Prim.Native.String.{String}
 use lib.ListN.{length, replicate}
-use lib.IntN.{ℤ, pos, negsuc}
+use lib.IntN.{ℤ}
 use Rattle.lists.specs.Bytes.{bytes}
+use Rattle.lists.specs.Words.{+, -}
 use Rattle.typed.specs.Text.{readText}
 use Rattle.typed.specs.Answer.{readingOf, numbersOf, roomAfter}
 
@@ -28,14 +29,6 @@ effect r = record {
   told = numbersOf (readingOf (readText (r .text) (length (r .before))));
   room = roomAfter (readText (r .text) (length (r .before))) (r .before);
 }
-
--- the words +v and -v
-abbrev + : ℕ → ℤ
-+ v = pos v
-
-abbrev - : ℕ → ℤ
-- zero = pos 0
-- (suc v) = negsuc v
 
 -- a text, a room of so many words that are all 99, the numbers told, and the room afterwards
 abbrev pub row : String → ℕ → List ℕ → List ℤ → Row
