@@ -8,7 +8,7 @@
 -- nothing.
 use mathlib.Core.Path.{_≡_, refl, sym, _∙_, ap, subst}
 use mathlib.Core.Bool.{true}
-use mathlib.Core.List.{List, [], _∷_}
+use mathlib.Core.List.{[], _∷_}
 use Prim.Native.Nat.{ℕ, zero, suc, _+_, _*_, _-_, _≤_, _<_, min}
 use native.Mathlib.Nat.{mul-le-mul-right, suc-mul, zero-mul}
 use native.Mathlib.Omega.{arith}
@@ -16,7 +16,6 @@ use lib.ListN.{length, replicate}
 use Rattle.hall.specs.Hall.{Entry, Rule, Hall, Plan, isFree, hold, firstUnmet}
 use Rattle.hall.specs.Order.{ifHeld, costOf, heldOf}
 use Rattle.hall.specs.Walk.{Best, noneYet, soFar, Walker, still, after, entryBy, through, opening, nodeBy, node, walk, walkFrom, start, walkHall}
-use Rattle.lists.specs.Lists.{Each}
 use Rattle.hall.specs.Ranges.{HallInRange}
 use Rattle.hall.specs.Bound.{widest, depth, powerSum, boundOf, EqualityCase, Bounded}
 use Rattle.hall.proofs.Plans.{hold-held, hold-length, held-all, start-plan, start-held}

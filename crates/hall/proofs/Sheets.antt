@@ -1,6 +1,6 @@
 -- The sheet of a hall within every range is accepted, and that hall is what is decoded.
 --
--- In order: what stands on the sheet and is in its range is given, for each reader from a word to a hall (`Gives`,
+-- In order: what stands on the sheet and is in its range is given, for each reader from a word to a hall (`GivesBack`,
 -- `hall-gives`); the whole sheet (`accepted`). That nothing else is accepted is `decoded`, in Reasons. Assumes nothing.
 use mathlib.Core.Path.{_≡_, sym, _∙_, ap}
 use mathlib.Core.List.{List, [], _∷_, _++_, append-assoc, append-nil}
@@ -17,20 +17,20 @@ use Rattle.hall.specs.Reading.{Fault, badCount, badCost, badEntry, got, 
 use Rattle.hall.proofs.Reading.{drop-word, past, reads-on}
 
 -- ── what stands on the sheet is given ──
-abbrev Gives : {A : Type 0} → Reader A → (A → List ℤ) → (A → Type 0) → Type 0
-Gives {A} r f P = (a : A) → P a → (ws : List ℤ) (i : ℕ) (rest : List ℤ) → drop i ws ≡ f a ++ rest → r ws i ≡ got a (i + length (f a))
+abbrev GivesBack : {A : Type 0} → Reader A → (A → List ℤ) → (A → Type 0) → Type 0
+GivesBack {A} r f P = (a : A) → P a → (ws : List ℤ) (i : ℕ) (rest : List ℤ) → drop i ws ≡ f a ++ rest → r ws i ≡ got a (i + length (f a))
 
 word-gives : {A : Type 0} (c : Fault) (value : ℤ → Option A) (w : ℤ) (a : A) → value w ≡ some a → (ws : List ℤ) (i : ℕ) (rest : List ℤ) → drop i ws ≡ w ∷ rest → word c value ws i ≡ got a (i + 1)
 word-gives c value w a v ws i rest e = rw (drop-word ws i w rest e, v) (ap (λ (j : ℕ). got a j) (omega arith))
 
-number-gives : (c : Fault) (most : ℕ) → Gives (word c (upTo most)) numberWords (λ n. n ≤ most)
+number-gives : (c : Fault) (most : ℕ) → GivesBack (word c (upTo most)) numberWords (λ n. n ≤ most)
 number-gives c most n g = word-gives c (upTo most) (pos n) n (rw (le-leb n most g))
 
-entry-gives : (n : ℕ) → Gives (entry n) entryWords (λ e. device e < n)
+entry-gives : (n : ℕ) → GivesBack (entry n) entryWords (λ e. device e < n)
 entry-gives n (at1 v) g = word-gives badEntry (asEntry n) _ (at1 v) (rw (lt-ltb v n g))
 entry-gives n (at0 v) g = word-gives badEntry (asEntry n) _ (at0 v) (rw (lt-ltb v n g))
 
-module _ {A : Type 0} (r : Reader A) (f : A → List ℤ) (P : A → Type 0) (gives : Gives r f P) where
+module _ {A : Type 0} (r : Reader A) (f : A → List ℤ) (P : A → Type 0) (gives : GivesBack r f P) where
   times-gives : (l : List A) → Each P l → (ws : List ℤ) (i : ℕ) (rest : List ℤ) → drop i ws ≡ wordsOf f l ++ rest → times (length l) r ws i ≡ got l (i + length (wordsOf f l))
   unfolding times wordsOf
   times-gives [] g ws i rest e = ap (λ (j : ℕ). got [] j) (omega arith)
@@ -41,14 +41,14 @@ module _ {A : Type 0} (r : Reader A) (f : A → List ℤ) (P : A → Type 0) (gi
       ∙ reads-on (times (length l) r) (λ m. yield (a ∷ m)) ws (i + length (f a)) (times-gives l (g .1) ws (i + length (f a)) rest next)
       ∙ ap (λ (j : ℕ). got (a ∷ l) j) (omega (arith, length-append (f a) (wordsOf f l)))
 
-rule-gives : (n : ℕ) → Gives (rule n) ruleWords (RuleInRange n)
+rule-gives : (n : ℕ) → GivesBack (rule n) ruleWords (RuleInRange n)
 unfolding rule ruleWords
 rule-gives n r g ws i rest e =
     reads-on (word badCount (upTo 32)) (λ w. times w (entry n)) ws i (number-gives badCount 32 (length r) (g .width) ws i (wordsOf entryWords r ++ rest) e)
     ∙ times-gives (entry n) entryWords (λ e. device e < n) (entry-gives n) r (g .named) ws (i + 1) rest (past ws i (pos (length r) ∷ []) (wordsOf entryWords r ++ rest) e)
     ∙ ap (λ (j : ℕ). got r j) (omega arith)
 
-pub hall-gives : Gives hall words HallInRange
+pub hall-gives : GivesBack hall words HallInRange
 unfolding hall words
 hall-gives h g ws i rest e =
     let cs = wordsOf numberWords (h .costs) in

@@ -10,7 +10,7 @@ use native.Mathlib.Omega.{arith}
 use lib.ListN.{length, take}
 use lib.IntN.{ℤ}
 use Rattle.lists.proofs.InFront.{front-stands}
-use Rattle.hall.specs.Hall.{Hall, Plan}
+use Rattle.hall.specs.Hall.{Hall}
 use Rattle.hall.specs.Ranges.{words, SheetOf}
 use Rattle.hall.specs.Reading.{Fault, tooShort, badCount, badCost, badEntry, extraWords, smallRoom, tooLong, faultCode}
 use Rattle.hall.specs.Answer as hall

@@ -63,8 +63,8 @@ module _ (costs : List ℕ) (p bestPlan : Plan) (cost held : ℕ) (tally : Tally
       go false c k t = sym (shut-none h p)
 
   -- the best so far after a plan that meets every rule
-  abbrev Kept : BestSoFar → BestSoFar → Plan → Type 0
-  Kept best best′ bestPlan′ = (bestOf best′ bestPlan′ ≡ soFar (keep costs p (bestOf best bestPlan))) × Shown costs best′ bestPlan′
+  abbrev KeptBest : BestSoFar → BestSoFar → Plan → Type 0
+  KeptBest best best′ bestPlan′ = (bestOf best′ bestPlan′ ≡ soFar (keep costs p (bestOf best bestPlan))) × Shown costs best′ bestPlan′
 
   abbrev mine : BestSoFar
   mine = record { found = true; cost = cost; held = held }
@@ -72,7 +72,7 @@ module _ (costs : List ℕ) (p bestPlan : Plan) (cost held : ℕ) (tally : Tally
   kept : (f : Bool) (c k : ℕ) → (f ≡ true → Tally costs bestPlan c k) →
       (let best : BestSoFar = record { found = f; cost = c; held = k } in
       let t = isBetter best bestPlan p cost held in
-      Kept best (cond t mine best) (cond t p bestPlan))
+      KeptBest best (cond t mine best) (cond t p bestPlan))
   unfolding keep
   kept false c k shown = (refl, λ _. tally)
   kept true c k shown = rw (better-is (shown refl)) (go (better costs p bestPlan))
@@ -83,7 +83,7 @@ module _ (costs : List ℕ) (p bestPlan : Plan) (cost held : ℕ) (tally : Tally
       go true = (refl, λ _. tally)
       go false = (refl, shown)
 
-  settled : (best best′ : BestSoFar) (bestPlan′ : Plan) → Shown costs best bestPlan → Settles best bestPlan p cost held best′ bestPlan′ → Kept best best′ bestPlan′
+  settled : (best best′ : BestSoFar) (bestPlan′ : Plan) → Shown costs best bestPlan → Settles best bestPlan p cost held best′ bestPlan′ → KeptBest best best′ bestPlan′
   settled best best′ bestPlan′ shown s = rw (s .numbers, s .written) (kept (best .found) (best .cost) (best .held) shown)
 
 -- ── opening a node ──

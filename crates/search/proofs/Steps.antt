@@ -1,7 +1,7 @@
 -- THE CYCLE: what each call is made under, that the measure falls, and how the parts of a walk make the whole.
 --
 -- In order: the measure (`remaining`, `falls-child`); what a node hands on (`openable`, `few-held`, `small-child`, `next-node`,
--- `child-node`); the entries of a rule: what is kept from entry to entry (`Partway`, `reached-none`), none is left (`walked-all`), one
+-- `child-node`); the entries of a rule: what is kept from entry to entry (`Partway`, `partway-none`), none is left (`walked-all`), one
 -- whose device is held (`passed-held`), one whose child was walked (`Tried`: `tried-spent`, `tried-on`); a node that was opened:
 -- stopped, without children, or branching (`walked-stopped`, `walked-leaf`, `branch-..`, `walked-branch`). Assumes nothing.
 use mathlib.Core.Path.{_≡_, refl, sym, ap, _∙_}
@@ -123,10 +123,10 @@ pub record Partway (costs codes starts : List ℕ) (m : ℕ) (child : Walker) (a
   pub went : WentOn costs (s₀ .meter) part s bestPlan
   pub rest : through child p₀ (entriesOf codes at₀ left₀) (bestOf (s₀ .best) bestPlan₀) ≡ after part (through child p₀ (entriesOf codes at left) (part .best))
 
-pub reached-none : {costs codes starts : List ℕ} {m : ℕ} (child : Walker) {at left : ℕ} {p bestPlan : Plan} {s : State} {cost held : ℕ} → AtEntries costs codes starts m at left p bestPlan s cost held →
+pub partway-none : {costs codes starts : List ℕ} {m : ℕ} (child : Walker) {at left : ℕ} {p bestPlan : Plan} {s : State} {cost held : ℕ} → AtEntries costs codes starts m at left p bestPlan s cost held →
     Partway costs codes starts m child at left p bestPlan s cost held at left p bestPlan s
 unfolding still after
-reached-none child {at} {left} {p} {bestPlan} {s} x =
+partway-none child {at} {left} {p} {bestPlan} {s} x =
     let budgeted = x .node .budgeted in
     record {
       as-was = refl;

@@ -1,7 +1,6 @@
 // The left-to-right check: 01, "each word checked as it is read, so the first fault decides; then 15; then 16". It writes nothing.
 ghost use mathlib.Core.Path.{_≡_};
 ghost use Prim.Native.Nat.{_≤_};
-ghost use lib.ListN.{length};
 ghost use Rattle.hall.specs.Reading.{badCount, upTo, word, times, cost, entry, rule, decode};
 ghost use Rattle.sheet.specs.Check.{countOf, stepOf, sheetOf};
 use crate::Refusal;

@@ -16,7 +16,7 @@ use Rattle.typed.specs.Steps.{tokensAt, FoundWord, FoundMistake, NextIs,
 use Rattle.typed.specs.declared.Mistake.{Mistake}
 use Rattle.typed.specs.declared.words.Next.{Next}
 use Rattle.typed.specs.declared.words.Next.the-variants.{End, Found, Bad}
-use Rattle.typed.proofs.Taking.{none-left, one-bad, clash, Took, took}
+use Rattle.typed.proofs.Taking.{none-left, one-bad, clash, TookWord, took}
 
 pub record Filling (text : List ℕ) (before : List ℤ) (i n : ℕ) (now : List ℤ) : Type 0 where
   pub inside : i ≤ length text
@@ -59,7 +59,7 @@ module _ {text : List ℕ} {before now : List ℤ} {i n : ℕ} (g : Filling text
     pub filling-word : FoundWord text i z start end
     filling-word = subst (NextIs text i) e h
 
-    one : Took (length before - n) (tokensAt text end) z (g .left)
+    one : TookWord (length before - n) (tokensAt text end) z (g .left)
     one =
         let f = filling-word in
         took (length before - n) (f .token) (tokensAt text end) z (g .left) (f .says) (sym (ap (readTokens (length before - n)) (f .first)) ∙ g .rest)

@@ -13,7 +13,7 @@ use lib.ListN.{length, take}
 use lib.IntN.{ℤ}
 use lib.Dec.{eqb}
 use Rattle.lists.proofs.InFront.{front-stands}
-use Rattle.typed.specs.Text.{mistakeCode, Read, refused, got, readText}
+use Rattle.typed.specs.Text.{mistakeCode, Read, readText}
 use Rattle.typed.specs.Allowed.{Accepted}
 use Rattle.typed.specs.Reasons.{Reason}
 use Rattle.typed.specs.Answer.{readingOf, numbersOf, roomAfter, Justified, Reads}
@@ -24,17 +24,17 @@ use Rattle.typed.specs.declared.Reading.the-variants.{Words, Refused}
 use Rattle.typed.proofs.Verdicts.{accepted-exactly, refused-exactly}
 
 -- ── one answer, one room ──
-abbrev kindOf : ℕ → Mistake
-kindOf n = cond (eqb n 21) WrongByte (cond (eqb n 22) BadNumber (cond (eqb n 23) TooLong NoRoom))
+abbrev mistakeOf : ℕ → Mistake
+mistakeOf n = cond (eqb n 21) WrongByte (cond (eqb n 22) BadNumber (cond (eqb n 23) TooLong NoRoom))
 
-kind-of-code : (m : Mistake) → kindOf (mistakeCode m) ≡ m
+kind-of-code : (m : Mistake) → mistakeOf (mistakeCode m) ≡ m
 kind-of-code WrongByte = refl
 kind-of-code BadNumber = refl
 kind-of-code TooLong = refl
 kind-of-code NoRoom = refl
 
 pub code-injective : (m n : Mistake) → mistakeCode m ≡ mistakeCode n → m ≡ n
-code-injective m n e = sym (kind-of-code m) ∙ ap kindOf e ∙ kind-of-code n
+code-injective m n e = sym (kind-of-code m) ∙ ap mistakeOf e ∙ kind-of-code n
 
 code-some : (m : Mistake) → 0 < mistakeCode m
 code-some WrongByte = omega arith

@@ -38,17 +38,17 @@ one-bad (suc room) t ts m place e = ap (λ (r : Read ℤ). then r λ z. then (re
 pub clash : {A B : Type 0} {m : Mistake} {place : ℕ} {a : A} → _≡_ {A = Read A} (refused m place) (got a) → B
 clash e = absurd (let z : _≡_ {A = ℕ} 0 1 = cc in omega arith)
 
-pub record Took (room : ℕ) (ts : List Token) (z : ℤ) (words : List ℤ) : Type 0 where
+pub record TookWord (room : ℕ) (ts : List Token) (z : ℤ) (words : List ℤ) : Type 0 where
   pub some : 0 < room
   pub rest : List ℤ
   pub first : words ≡ z ∷ rest
   pub read : readTokens (room - 1) ts ≡ got rest
 
 pub took : (room : ℕ) (t : Token) (ts : List Token) (z : ℤ) (words : List ℤ) → valueOf t ≡ got z → readTokens room (t ∷ ts) ≡ got words
-    → Took room ts z words
+    → TookWord room ts z words
 took zero t ts z words e g = clash (sym (no-room t ts z e) ∙ g)
 took (suc room) t ts z words e g = go (readTokens (suc room - 1) ts) refl (sym (got-one t ts z e (suc room) (omega arith)) ∙ g)
   where
-    go : (x : Read (List ℤ)) → readTokens (suc room - 1) ts ≡ x → then x (λ zs. got (z ∷ zs)) ≡ got words → Took (suc room) ts z words
+    go : (x : Read (List ℤ)) → readTokens (suc room - 1) ts ≡ x → then x (λ zs. got (z ∷ zs)) ≡ got words → TookWord (suc room) ts z words
     go (refused m place) q g = clash g
     go (got zs) q g = record { some = omega arith; rest = zs; first = cc; read = q }

@@ -21,7 +21,7 @@ mod Places
 
 -- ── the answers of `walk_entries` ──
 entries-loop-holds : (t : ℕ) → entries-lts.Need-loop-holds (entries-claims t) (entries-at t) entries.Post Inv μ
-entries-loop-holds t c = steps.reached-none _ (c .before .before .before .pre .1)
+entries-loop-holds t c = steps.partway-none _ (c .before .before .before .pre .1)
 
 entries-code-at-requires : (t : ℕ) → entries-lts.Need-code-at-requires (entries-claims t) (entries-at t) entries.Post Inv μ
 entries-code-at-requires t c κs = let w = turn c .loop .inv .here .entries .within in omega arith
