@@ -1,12 +1,12 @@
--- Laws of `inFront`: what stands in front (`front-stands`), the rest of the room (`rest-stays`), its length (`room-as-long`); stores
--- from the front of a room on that has place for them (`sets-in-front`), and one run of stores behind another (`sets-append`).
--- Assumes nothing.
-use mathlib.Core.Path.{_≡_, _∙_, ap}
+-- Laws of `inFront`: what stands in front (`front-stands`), the rest of the room (`rest-stays`), its length (`room-as-long`,
+-- `front-fits`); stores from the front of a room on that has place for them (`sets-in-front`), one run of stores behind another
+-- (`sets-append`), and rooms that stores make equal, which are equally long (`sets-as-long`). Assumes nothing.
+use mathlib.Core.Path.{_≡_, sym, _∙_, ap}
 use mathlib.Core.List.{List, [], _∷_, _++_}
 use Prim.Native.Nat.{ℕ, suc, _+_, _≤_}
 use native.Mathlib.Omega.{arith}
 use lib.ListN.{length, take, drop, set, length-append, length-drop}
-use lib.Seq.{sets, sets-eq, take-append-seam, drop-append-seam}
+use lib.Seq.{sets, length-sets, sets-eq, take-append-seam, drop-append-seam}
 use Rattle.lists.specs.Lists.{inFront}
 
 module _ {A : Type 0} where
@@ -19,6 +19,9 @@ module _ {A : Type 0} where
   pub room-as-long : (front room : List A) → length front ≤ length room → length (inFront front room) ≡ length room
   room-as-long front room l = omega (arith, length-append front (drop (length front) room), length-drop (length front) room)
 
+  pub front-fits : (front room : List A) → length front ≤ length (inFront front room)
+  front-fits front room = omega (arith, length-append front (drop (length front) room))
+
   pub sets-in-front : (front room : List A) → length front ≤ length room → sets room 0 front ≡ inFront front room
   sets-in-front front room l =
       let z : 0 + length front ≡ length front = omega arith in
@@ -27,3 +30,6 @@ module _ {A : Type 0} where
   pub sets-append : (room : List A) (k : ℕ) (a b : List A) → sets room k (a ++ b) ≡ sets (sets room k a) (k + length a) b
   sets-append room k [] b = ap (λ (i : ℕ). sets room i b) (omega arith)
   sets-append room k (v ∷ a) b = sets-append (set room k v) (suc k) a b ∙ ap (λ (i : ℕ). sets (sets (set room k v) (suc k) a) i b) (omega arith)
+
+  pub sets-as-long : (room room′ : List A) (i j : ℕ) (a b : List A) → sets room i a ≡ sets room′ j b → length room ≡ length room′
+  sets-as-long room room′ i j a b e = sym (length-sets room i a) ∙ ap length e ∙ length-sets room′ j b

@@ -1,29 +1,29 @@
 -- From what the sheet's reader and the search of a coded hall give to the contract of `least_plan`.
 --
--- In order: a refused sheet (`call-refused`); an accepted sheet: its hall and how long it is (`ReadHall`, `read-hall`), that it can be searched
+-- In order: a refused sheet (`call-refused`); an accepted sheet: its hall (`ReadHall`, `read-hall`), that it can be searched
 -- (`call-few`, `call-solvable`), and what is found (`call-found`). Assumes nothing.
 use mathlib.Core.Path.{_≡_, refl, sym, _∙_, ap, subst}
 use mathlib.Core.List.{List, [], _∷_}
-use Prim.Native.Nat.{ℕ, _-_, _≤_, _<_}
+use Prim.Native.Nat.{ℕ, _-_, _≤_}
 use native.Mathlib.Nat.{sub-zero}
 use native.Mathlib.Omega.{arith}
-use lib.ListN.{length, getD, take, replicate, length-replicate}
-use lib.Seq.{length-sets}
+use lib.ListN.{length, getD, take}
 use lib.IntN.{ℤ}
+use Rattle.lists.proofs.InFront.{front-fits}
 use Rattle.hall.specs.Hall.{Hall}
 use Rattle.hall.specs.Walk.{walkHall}
 use Rattle.hall.specs.Ranges.{SheetOf}
-use Rattle.hall.specs.Bound.{entries}
 use Rattle.hall.specs.Reading.{Read, bad, got, decode}
 use Rattle.hall.specs.Answer.{within, answerRead, answer, numbers, roomAfter}
 use Rattle.hall.proofs.Reasons.{decoded}
-use Rattle.sheet.specs.Coded.{hallOf, Laid, entryCodes}
+use Rattle.sheet.specs.Coded.{hallOf, Laid}
 use Rattle.sheet.specs.Contract as sheet-says
 use Rattle.sheet.specs.Contract.{refusalCode, numbersRead, Holds, ArraysAfter, Decodes}
 use Rattle.sheet.specs.declared.Refusal.{Refusal}
 use Rattle.sheet.specs.declared.Sheet.{Sheet}
 use Rattle.sheet.specs.declared.Sheet.the-variants as sheet
-use Rattle.sheet.proofs.Coded.{few-entries, hall-back, hall-end, hall-laid}
+use Rattle.sheet.proofs.Standing.{few-entries}
+use Rattle.sheet.proofs.Coded.{hall-back, hall-end, hall-laid}
 use Rattle.search.specs.Solve.{Solvable, Gives}
 use Rattle.search.specs.Contract.{Finds}
 use Rattle.search.specs.declared.Answer.{Answer}
@@ -59,33 +59,12 @@ module _ (ws : List ℤ) (costs codes starts costs′ codes′ starts′ : List 
       go (got h j) u q a = record { whole = h; place = j; is = u; devices = cc; count = cc; sheet-of = decoded ws (length before) h j u; holds = a }
 
 module _ (ws : List ℤ) (costs codes starts costs′ codes′ starts′ : List ℕ) (before : List ℕ) (s : Sheet) (d : Decodes ws (length before) costs codes starts s costs′ codes′ starts′)
-    (n m : ℕ) (e : s ≡ sheet.Hall n m) (ec : costs ≡ replicate 200 0) (ek : codes ≡ replicate 16384 0) (es : starts ≡ replicate 2001 0) where
+    (n m : ℕ) (e : s ≡ sheet.Hall n m) where
   hall-read : ReadHall ws costs codes starts costs′ codes′ starts′ before s d n m
   hall-read = read-hall ws costs codes starts costs′ codes′ starts′ before s d n m e
 
   h : Hall
   h = hall-read .whole
-
-  costs-length : length costs ≡ 200
-  costs-length = ap length ec ∙ length-replicate {A = ℕ} 200 0
-
-  codes-length : length codes ≡ 16384
-  codes-length = ap length ek ∙ length-replicate {A = ℕ} 16384 0
-
-  starts-length : length starts ≡ 2001
-  starts-length = ap length es ∙ length-replicate {A = ℕ} 2001 0
-
-  few : length (h .costs) ≤ length costs
-  unfolding h
-  few = let a = hall-read .sheet-of .ranges .devices in omega (arith, costs-length)
-
-  entries-few : length (entries (h .rules)) ≤ length codes
-  unfolding h
-  entries-few = omega (arith, few-entries (hall-read .sheet-of), codes-length)
-
-  rules-few : length (h .rules) < length starts
-  unfolding h
-  rules-few = let a = hall-read .sheet-of .ranges .count in omega (arith, starts-length)
 
   -- the arrays read back as the sheet's hall
   back : hallOf (take n costs′) codes′ starts′ m ≡ h
@@ -93,17 +72,15 @@ module _ (ws : List ℤ) (costs codes starts costs′ codes′ starts′ : List 
   back =
       subst (λ (k : ℕ). hallOf (take k costs′) codes′ starts′ m ≡ hall-read .whole) (hall-read .devices)
       (subst (λ (k : ℕ). hallOf (take (length (hall-read .whole .costs)) costs′) codes′ starts′ k ≡ hall-read .whole) (hall-read .count)
-      (hall-back (hall-read .whole) costs codes starts costs′ codes′ starts′ (hall-read .holds) few entries-few rules-few))
+      (hall-back (hall-read .whole) costs codes starts costs′ codes′ starts′ (hall-read .holds)))
 
   front : take n costs′ ≡ h .costs
   front = ap (λ (g : Hall). g .costs) back
 
   pub call-few : n ≤ length costs′
-  unfolding h
   call-few =
-      let a = hall-read .devices in
-      let b = hall-read .sheet-of .ranges .devices in
-      omega (arith, ap length (hall-read .holds .costs-hold) ∙ length-sets costs 0 (hall-read .whole .costs), costs-length)
+      let g = hall-read in
+      omega (arith, g .devices, ap length (g .holds .costs-hold), front-fits (g .whole .costs) costs)
 
   solvable : Solvable (take n costs′) codes′ starts′ m before
   unfolding h
@@ -116,9 +93,8 @@ module _ (ws : List ℤ) (costs codes starts costs′ codes′ starts′ : List 
       let devices = ranges .devices in
       let count = ranges .count in
       let fits = g .sheet-of .fits in
-      let room : length codes′ ≡ length codes = ap length (g .holds .codes-hold) ∙ length-sets codes 0 (entryCodes (entries (g .whole .rules))) in
-      let laid = hall-laid (g .whole) costs codes starts costs′ codes′ starts′ (g .holds) few entries-few rules-few ranges (omega (arith, entries-few)) in
-      let end = hall-end (g .whole) costs codes starts costs′ codes′ starts′ (g .holds) few entries-few rules-few in
+      let laid = hall-laid (g .whole) costs codes starts costs′ codes′ starts′ (g .holds) ranges in
+      let end = hall-end (g .whole) costs codes starts costs′ codes′ starts′ (g .holds) in
       record {
         loaded = record {
           laid = subst (λ (k : ℕ). Laid (length (take n costs′)) codes′ starts′ k) b (subst (λ (k : ℕ). Laid k codes′ starts′ (length (g .whole .rules))) (sym same) laid);

@@ -1,6 +1,6 @@
 -- The coded arrays read back as the hall, and what the walk needs of them.
 --
--- In order: lengths; one element of a list, by what lies from its place on (`drop-head`); a code is its entry's (`code-entry`,
+-- In order: one element of a list, by what lies from its place on (`drop-head`); a code is its entry's (`code-entry`,
 -- `code-device`); rules read back (`rules-back`); starts and codes, place by place (`starts-laid`, `starts-last`, `codes-named`); arrays
 -- that hold a hall (`hall-back`, `hall-end`, `hall-laid`). Assumes nothing.
 use mathlib.Core.Path.{_≡_, refl, sym, _∙_, ap}
@@ -9,32 +9,16 @@ use Prim.Native.Nat.{ℕ, zero, suc, _+_, _-_, _/_, _%_, _≤_, _<_, zero-le}
 use native.Mathlib.Nat.{zero-add}
 use native.Mathlib.Omega.{arith}
 use lib.ListN.{length, getD, take, drop, length-append}
-use lib.IntN.{ℤ, pos}
-use lib.Seq.{sets-eq, take-append-seam, drop-drop, drop-at}
+use lib.Seq.{drop-drop, drop-at}
 use Rattle.hall.specs.Hall.{Entry, at1, at0, device, Rule, Hall}
 use Rattle.lists.specs.Lists.{Each}
-use Rattle.hall.specs.Ranges.{RuleInRange, HallInRange, wordsOf, numberWords, entryWords, ruleWords, words, SheetOf}
+use Rattle.hall.specs.Ranges.{RuleInRange, HallInRange}
 use Rattle.hall.specs.Bound.{entries}
 use Rattle.lists.proofs.Each.{each-append}
+use Rattle.lists.proofs.InFront.{front-stands, front-fits}
 use Rattle.sheet.specs.Coded.{entryOf, entriesOf, rulesOf, hallOf, Laid, entryCode, entryCodes, startsFrom}
-use Rattle.sheet.specs.Contract.{inFront, Holds}
-use Rattle.sheet.proofs.Standing.{entry-words-length, codes-append}
-
--- ── lengths ──
-pub in-front : (numbers array : List ℕ) → length numbers ≤ length array → inFront numbers array ≡ numbers ++ drop (length numbers) array
-in-front numbers array l =
-    let z : 0 + length numbers ≡ length numbers = omega arith in
-    sets-eq numbers array 0 (omega arith) ∙ ap (λ (k : ℕ). numbers ++ drop k array) z
-
-pub codes-length : (es : List Entry) → length (entryCodes es) ≡ length es
-unfolding entryCodes
-codes-length [] = refl
-codes-length (e ∷ es) = ap suc (codes-length es)
-
-pub starts-length : (first : ℕ) (rs : List Rule) → length (startsFrom first rs) ≡ suc (length rs)
-unfolding startsFrom
-starts-length first [] = refl
-starts-length first (r ∷ rs) = ap suc (starts-length (first + length r) rs)
+use Rattle.sheet.specs.Contract.{Holds}
+use Rattle.sheet.proofs.Standing.{codes-append, codes-length}
 
 -- ── one element ──
 drop-head : (l : List ℕ) (at x : ℕ) (xs : List ℕ) → drop at l ≡ x ∷ xs → (getD l at 0 ≡ x) × (drop (at + 1) l ≡ xs)
@@ -128,59 +112,34 @@ unfolding entries
 entries-named n [] g = tt
 entries-named n (r ∷ rs) g = each-append (λ e. device e < n) r (entries rs) (g .0 .named) (entries-named n rs (g .1))
 
--- there are no more entries than words
-rule-entries : (rs : List Rule) → length (entries rs) ≤ length (wordsOf ruleWords rs)
-unfolding entries wordsOf ruleWords
-rule-entries [] = zero-le
-rule-entries (r ∷ rs) = omega (
-  arith,
-  length-append r (entries rs),
-  length-append (wordsOf entryWords r) (wordsOf ruleWords rs),
-  entry-words-length r,
-  rule-entries rs,
-)
-
-pub few-entries : {h : Hall} {ws : List ℤ} {room : ℕ} → SheetOf h ws room → length (entries (h .rules)) ≤ 16384
-unfolding words
-few-entries {h} {ws} s =
-    let short = s .short in
-    omega (arith, ap length (s .sheet), length-append (wordsOf numberWords (h .costs)) (pos (length (h .rules)) ∷ wordsOf ruleWords (h .rules)), rule-entries (h .rules))
-
 -- ── arrays that hold a hall ──
-module _ (h : Hall) (costs codes starts costs′ codes′ starts′ : List ℕ) (a : Holds h costs codes starts costs′ codes′ starts′)
-    (lc : length (h .costs) ≤ length costs) (lk : length (entries (h .rules)) ≤ length codes) (ls : length (h .rules) < length starts) where
-  costs-front : costs′ ≡ h .costs ++ drop (length (h .costs)) costs
-  costs-front = a .costs-hold ∙ in-front (h .costs) costs lc
-
-  codes-front : drop 0 codes′ ≡ entryCodes (entries (h .rules)) ++ drop (length (entryCodes (entries (h .rules)))) codes
-  codes-front = a .codes-hold ∙ in-front (entryCodes (entries (h .rules))) codes (omega (arith, codes-length (entries (h .rules))))
-
-  starts-front : drop 0 starts′ ≡ startsFrom 0 (h .rules) ++ drop (length (startsFrom 0 (h .rules))) starts
-  starts-front = a .starts-hold ∙ in-front (startsFrom 0 (h .rules)) starts (omega (arith, starts-length 0 (h .rules)))
-
+module _ (h : Hall) (costs codes starts costs′ codes′ starts′ : List ℕ) (a : Holds h costs codes starts costs′ codes′ starts′) where
   -- the arrays read back as the hall
   pub hall-back : hallOf (take (length (h .costs)) costs′) codes′ starts′ (length (h .rules)) ≡ h
-  hall-back = rw (costs-front, take-append-seam (h .costs) (drop (length (h .costs)) costs), rules-back codes′ starts′ 0 0 (h .rules) _ _ codes-front starts-front)
+  hall-back = rw (a .costs-hold, front-stands (h .costs) costs, rules-back codes′ starts′ 0 0 (h .rules) _ _ (a .codes-hold) (a .starts-hold))
 
   -- the last start is the number of entries
   pub hall-end : getD starts′ (length (h .rules)) 0 ≡ length (entries (h .rules))
   hall-end =
       let z : 0 + length (h .rules) ≡ length (h .rules) = zero-add (length (h .rules)) in
-      ap (λ (k : ℕ). getD starts′ k 0) (sym z) ∙ starts-last starts′ 0 0 (h .rules) _ starts-front ∙ zero-add (length (entries (h .rules)))
+      ap (λ (k : ℕ). getD starts′ k 0) (sym z) ∙ starts-last starts′ 0 0 (h .rules) _ (a .starts-hold) ∙ zero-add (length (entries (h .rules)))
 
   -- starts rise, every rule lies within the codes and is at most 32 wide, every code names a device
-  pub hall-laid : HallInRange h → length (entries (h .rules)) ≤ length codes′ → Laid (length (h .costs)) codes′ starts′ (length (h .rules))
-  hall-laid r within =
+  pub hall-laid : HallInRange h → Laid (length (h .costs)) codes′ starts′ (length (h .rules))
+  hall-laid r =
       let n = length (h .costs) in
       record {
         rise = λ i l. laid i l .0;
         narrow = λ i l. laid i l .1;
-        within = λ i l. let w = laid i l .2 in omega arith;
-        named = λ i l. codes-named n codes′ 0 (entries (h .rules)) _ (entries-named n (h .rules) (r .good)) codes-front i zero-le (last i l);
+        within = λ i l. let w = laid i l .2 in omega (arith, enough);
+        named = λ i l. codes-named n codes′ 0 (entries (h .rules)) _ (entries-named n (h .rules) (r .good)) (a .codes-hold) i zero-le (last i l);
       }
     where
       laid : (i : ℕ) → i < length (h .rules) → (getD starts′ i 0 ≤ getD starts′ (i + 1) 0) × (getD starts′ (i + 1) 0 ≤ getD starts′ i 0 + 32) × (getD starts′ (i + 1) 0 ≤ 0 + length (entries (h .rules)))
-      laid i l = starts-laid (length (h .costs)) starts′ 0 0 (h .rules) _ (r .good) starts-front i zero-le (omega arith)
+      laid i l = starts-laid (length (h .costs)) starts′ 0 0 (h .rules) _ (r .good) (a .starts-hold) i zero-le (omega arith)
+
+      enough : length (entries (h .rules)) ≤ length codes′
+      enough = omega (arith, ap length (a .codes-hold), front-fits (entryCodes (entries (h .rules))) codes, codes-length (entries (h .rules)))
 
       last : (i : ℕ) → i < getD starts′ (length (h .rules)) 0 → i < 0 + length (entries (h .rules))
       last i l = omega (arith, hall-end)

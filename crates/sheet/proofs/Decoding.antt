@@ -1,7 +1,8 @@
 -- The contract of `read`, from the check's answer and from what was written.
 --
 -- In order: the numbers of an answer (`numbers-same`); a refused sheet (`read-refused`); an accepted sheet (`Accepted`), what stands on
--- it, how long it is, and what the arrays hold of it (`accepted-few`, `accepted-rules`, `read-hall`). Assumes nothing.
+-- it (`accepted-rules`), that the arrays have place for it (`accepted-costs`, `accepted-room`), and what they hold of it (`read-hall`).
+-- Assumes nothing.
 use mathlib.Core.Path.{_≡_, refl, sym, _∙_, ap, subst}
 use mathlib.Core.List.{List, [], _∷_, _++_}
 use Prim.Native.Nat.{ℕ, suc, _+_, _≤_}
@@ -16,15 +17,16 @@ use Rattle.hall.specs.Bound.{entries}
 use Rattle.hall.specs.Reading.{Fault, tooShort, badCount, badCost, badEntry, extraWords, smallRoom, tooLong, Read, bad, got, decode}
 use Rattle.hall.proofs.Reading.{past}
 use Rattle.hall.proofs.Reasons.{decoded}
+use Rattle.lists.proofs.InFront.{sets-in-front}
 use Rattle.sheet.specs.Coded.{entryCodes, startsFrom}
 use Rattle.sheet.specs.Word.{numbersFrom}
 use Rattle.sheet.specs.Check.{kindOf, sheetOf}
-use Rattle.sheet.specs.Placed.{codesIn, startsIn, RulesStand, RulesPut}
+use Rattle.sheet.specs.Placed.{codesIn, startsIn, RulesStand, RulesRoom, RulesPut}
 use Rattle.sheet.specs.Contract.{faultOf, numbersOf, numbersRead, Holds, ArraysAfter, Decodes}
 use Rattle.sheet.specs.declared.Refusal.{Refusal}
 use Rattle.sheet.specs.declared.Sheet.{Sheet}
 use Rattle.sheet.specs.declared.Sheet.the-variants as sheet
-use Rattle.sheet.proofs.Standing.{costs-stand, codes-stand, starts-stand}
+use Rattle.sheet.proofs.Standing.{costs-stand, codes-stand, starts-stand, codes-length, starts-length, few-entries}
 
 -- ── the numbers of an answer ──
 pub fault-kind : (f : Fault) → faultOf (kindOf f) ≡ f
@@ -68,7 +70,7 @@ module _ (ws : List ℤ) (room : ℕ) (s : Sheet) (e : s ≡ sheetOf (decode roo
       go (bad f i) d e = absurd (let z : _≡_ {A = ℕ} 0 1 = cc in omega arith)
       go (got h j) d e = record { whole = h; place = j; is = d; devices = cc; count = cc; sheet-of = decoded ws room h j d }
 
-  pub accepted-few : (n m : ℕ) → s ≡ sheet.Hall n m → n ≤ 200
+  accepted-few : (n m : ℕ) → s ≡ sheet.Hall n m → n ≤ 200
   accepted-few n m u = let a = accepted n m u in let d = a .devices in let r = a .sheet-of .ranges .devices in omega arith
 
 -- the words of a hall, part by part
@@ -112,9 +114,19 @@ module _ (ws : List ℤ) (room : ℕ) (s : Sheet) (e : s ≡ sheetOf (decode roo
         inside = let q = p .enough in omega arith;
       }
 
+  -- the arrays have place for it
+  pub accepted-costs : (costs : List ℕ) → length costs ≡ 200 → n ≤ length costs
+  accepted-costs costs l = omega (arith, accepted-few ws room s e n m u)
+
+  pub accepted-room : (codes starts : List ℕ) → length codes ≡ 16384 → length starts ≡ 2001 → RulesRoom ws m codes starts
+  accepted-room codes starts lk ls =
+      let short = accepted-rules .short in
+      let count = accepted-rules .count in
+      record { codes-room = omega arith; starts-room = omega arith }
+
   -- ── what the arrays hold ──
-  pub read-hall : (costs codes starts costs′ codes′ starts′ : List ℕ) → costs′ ≡ sets costs 0 (numbersFrom ws 1 n) → RulesPut n ws (n + 2) m codes starts codes′ starts′ → Decodes ws room costs codes starts (sheet.Hall n m) costs′ codes′ starts′
-  read-hall costs codes starts costs′ codes′ starts′ put q = record { says = says-same ws room s e (sheet.Hall n m) u; arrays = subst (λ (x : Read Hall). ArraysAfter x costs codes starts costs′ codes′ starts′) (sym (a .is)) holds }
+  pub read-hall : (costs codes starts costs′ codes′ starts′ : List ℕ) → length costs ≡ 200 → length codes ≡ 16384 → length starts ≡ 2001 → costs′ ≡ sets costs 0 (numbersFrom ws 1 n) → RulesPut n ws (n + 2) m codes starts codes′ starts′ → Decodes ws room costs codes starts (sheet.Hall n m) costs′ codes′ starts′
+  read-hall costs codes starts costs′ codes′ starts′ lc lk ls put q = record { says = says-same ws room s e (sheet.Hall n m) u; arrays = subst (λ (x : Read Hall). ArraysAfter x costs codes starts costs′ codes′ starts′) (sym (a .is)) holds }
     where
       a : Accepted ws room s e n m
       a = accepted ws room s e n m u
@@ -144,8 +156,11 @@ module _ (ws : List ℤ) (room : ℕ) (s : Sheet) (e : s ≡ sheetOf (decode roo
       starts-are = ap (startsIn ws (n + 2) 0) (sym (a .count)) ∙ starts-stand ws (n + 2) 0 (h .rules) here
 
       holds : Holds h costs codes starts costs′ codes′ starts′
-      holds = record {
-        costs-hold = put ∙ ap (sets costs 0) costs-are;
-        codes-hold = q .codes-are ∙ ap (sets codes 0) codes-are;
-        starts-hold = q .starts-are ∙ ap (sets starts 0) starts-are;
-      }
+      holds =
+          let devices = a .sheet-of .ranges .devices in
+          let count = a .sheet-of .ranges .count in
+          record {
+            costs-hold = put ∙ ap (sets costs 0) costs-are ∙ sets-in-front (h .costs) costs (omega arith);
+            codes-hold = q .codes-are ∙ ap (sets codes 0) codes-are ∙ sets-in-front (entryCodes (entries (h .rules))) codes (omega (arith, codes-length (entries (h .rules)), few-entries (a .sheet-of)));
+            starts-hold = q .starts-are ∙ ap (sets starts 0) starts-are ∙ sets-in-front (startsFrom 0 (h .rules)) starts (omega (arith, starts-length 0 (h .rules)));
+          }

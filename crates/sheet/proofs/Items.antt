@@ -1,8 +1,8 @@
 -- One word: what the code tells of it, and what its reader gives.
 --
 -- In order: from a word and its sign to the number or the entry that it is read as (`number-..`, `entry-..`), and to what stands on a
--- good sheet (`value-..`, `code-..`); a reader of one word, by what was told (`Tells`: `told-missing`, `told-outside`, `told-is`);
--- counts (`count-..`). Assumes nothing.
+-- good sheet (`value-..`, `code-..`); a reader of one word, by what was told (`told-missing`, `told-outside`, `told-is`).
+-- Assumes nothing.
 use mathlib.Core.Path.{_≡_, refl, sym, _∙_, ap}
 use mathlib.Core.Bool.{Bool, true, false}
 use mathlib.Core.List.{List, [], _∷_}
@@ -21,7 +21,6 @@ use Rattle.sheet.specs.declared.word.Word.{Word}
 use Rattle.sheet.specs.declared.word.Word.the-variants as word-is
 use Rattle.sheet.specs.declared.word.Item.{Item}
 use Rattle.sheet.specs.declared.word.Item.the-variants as item
-use Rattle.sheet.specs.declared.check.Count.the-variants as count
 
 -- ── a word, by its place ──
 pub no-word : (ws : List ℤ) (i : ℕ) → length ws ≤ i → word-is.Missing ≡ wordOf (getElem? ws i)

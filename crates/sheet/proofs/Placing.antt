@@ -1,9 +1,9 @@
 -- Writing into the arrays: while something is left to write, writing it leaves what writing the whole leaves.
 --
--- In order: a run of values (`run-more`, `run-end`, `run-length`); rules, their codes
--- and their starts (`codes-more`, `starts-more`, `starts-end`). Assumes nothing.
+-- In order: a run of values (`run-length`, `run-more`, `run-end`); rules, their codes and their starts (`codes-more`, `starts-more`,
+-- `starts-end`, `codes-end`). Assumes nothing.
 use mathlib.Core.Path.{_≡_, refl, sym, _∙_, ap}
-use mathlib.Core.List.{List, [], _∷_, _++_}
+use mathlib.Core.List.{List, _∷_, _++_}
 use Prim.Native.Nat.{ℕ, zero, suc, _+_, _-_}
 use native.Mathlib.Numerals.{sub-one}
 use native.Mathlib.Omega.{arith}

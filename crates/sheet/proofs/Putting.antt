@@ -1,17 +1,19 @@
 -- Writing the rules, rule by rule.
 --
 -- In order: what holds before each rule (`Putting`), from the first on (`putting-start`); a start fits its array's type (`putting-small`); the
--- rule at hand has room (`putting-room`); over it to the next (`putting-more`); the end (`putting-end`). Assumes nothing.
+-- arrays are as long as they were, with a start more too (`codes-long`, `start-put`); a start and the rule at hand have room
+-- (`start-room`, `putting-room`); over it to the next (`putting-more`); the end (`putting-end`). Assumes nothing.
 use mathlib.Core.Path.{_≡_, _∙_, ap, subst}
 use mathlib.Core.List.{List}
 use Prim.Native.Nat.{ℕ, _+_, _-_, _≤_, _<_}
 use native.Mathlib.Nat.{sub-zero}
 use native.Mathlib.Omega.{arith}
-use lib.ListN.{set}
+use lib.ListN.{length, set, length-set}
 use lib.Seq.{sets}
 use lib.IntN.{ℤ}
+use Rattle.lists.proofs.InFront.{sets-as-long}
 use Rattle.sheet.specs.Word.{valueAt, codesFrom}
-use Rattle.sheet.specs.Placed.{codesIn, startsIn, RulesStand, CodesRoom, RulesPut}
+use Rattle.sheet.specs.Placed.{codesIn, startsIn, RulesStand, RulesRoom, CodesRoom, RulesPut}
 use Rattle.sheet.proofs.Placing.{codes-more, codes-end, starts-more, starts-end}
 use Rattle.sheet.proofs.Standing.{NextRule, next-rule}
 
@@ -40,12 +42,26 @@ module _ {n : ℕ} {ws : List ℤ} {m : ℕ} {codes₀ starts₀ codes starts : 
   next : r < m → NextRule n ws place (m - r)
   next l = next-rule n ws place (m - r) (p .stands) (λ (z : m - r ≡ 0). omega arith)
 
-  pub putting-room : r < m → (w : ℕ) → w ≡ valueAt ws place → CodesRoom (place + 1) w n first
-  putting-room l w e =
+  -- what is left to write shows how long the arrays are
+  pub codes-long : length codes ≡ length codes₀
+  codes-long = sets-as-long codes codes₀ first 0 (codesIn n ws place (m - r)) (codesIn n ws (n + 2) m) (p .codes-left)
+
+  starts-long : length starts ≡ length starts₀
+  starts-long = sets-as-long starts starts₀ r 0 (startsIn ws place first (m - r)) (startsIn ws (n + 2) 0 m) (p .starts-left)
+
+  pub start-put : (i v : ℕ) → length (set starts i v) ≡ length starts₀
+  start-put i v = length-set starts i v ∙ starts-long
+
+  pub start-room : RulesRoom ws m codes₀ starts₀ → (i : ℕ) → i ≤ m → i < length starts
+  start-room q i l = let places = q .starts-room in omega (arith, starts-long)
+
+  pub putting-room : RulesRoom ws m codes₀ starts₀ → r < m → (w : ℕ) → w ≡ valueAt ws place → CodesRoom (place + 1) w n first codes
+  putting-room q l w e =
       let near = p .near in
       let short = p .stands .short in
+      let places = q .codes-room in
       let room = next l .room in
-      record { devices = p .stands .devices; short = omega arith; room = omega arith }
+      record { devices = p .stands .devices; short = omega arith; room = omega (arith, codes-long) }
 
   pub putting-more : r < m → (w : ℕ) (codes′ : List ℕ) → w ≡ valueAt ws place → codes′ ≡ sets codes first (codesFrom n ws (place + 1) w)
       → Putting n ws m codes₀ starts₀ codes′ (set starts r first) (place + 1 + w) (first + w) (r + 1)

@@ -1,8 +1,8 @@
 -- A run of readings: while words are left, what the rest of the run answers is what the whole of it answers.
 --
 -- In order: any reader (`run-bad`, `run-on`, `run-done`); a run of single words, by what was told of each (`word-missing`,
--- `word-outside`, `word-on`); a count (`count-..`); a rule (`rule-..`); a run of rules, by the step of each (`step-bad`, `step-on`).
--- Assumes nothing.
+-- `word-outside`, `word-on`): of costs (`cost-..`), of entries (`entry-..`); a word that was told a number stands on the sheet
+-- (`told-inside`). Assumes nothing.
 use mathlib.Core.Path.{_≡_, refl, sym, _∙_, ap}
 use mathlib.Core.List.{List, _∷_}
 use mathlib.Core.Option.{Option}
@@ -15,7 +15,6 @@ use Rattle.sheet.specs.Word.{itemOf, codeIn}
 use Rattle.sheet.specs.Check.{kindOf, stepOf}
 use Rattle.sheet.specs.declared.word.Item.{Item}
 use Rattle.sheet.specs.declared.word.Item.the-variants as item
-use Rattle.sheet.specs.declared.check.Count.the-variants as count
 use Rattle.sheet.specs.declared.check.Step.{Step}
 use Rattle.sheet.specs.declared.check.Step.the-variants as step
 use Rattle.sheet.specs.declared.Refusal.the-variants.{TooShort, BadCost, BadEntry}

@@ -1,17 +1,17 @@
 -- A good sheet: what stands on it, place by place, is the hall.
 --
 -- In order: a rule's width and its entries (`next-rule`); the costs, codes and starts that stand there are the hall's (`costs-stand`,
--- `codes-stand`, `starts-stand`); an accepted sheet is such a sheet (`rules-stand`). Assumes nothing.
+-- `codes-stand`, `starts-stand`); how many there are of them (`codes-length`, `starts-length`, `few-entries`). Assumes nothing.
 use mathlib.Core.Path.{_≡_, refl, sym, _∙_, ap}
 use mathlib.Core.List.{List, [], _∷_, _++_, append-assoc}
-use Prim.Native.Nat.{ℕ, suc, _+_, _-_, _≤_, _<_}
+use Prim.Native.Nat.{ℕ, suc, _+_, _-_, _≤_, _<_, zero-le}
 use native.Mathlib.Omega.{arith}
 use lib.ListN.{length, drop, length-append, length-drop}
 use lib.IntN.{ℤ, pos}
 use borrow.Author.Tests.{lt-ltb}
-use Rattle.hall.specs.Hall.{Entry, at1, at0, device, Rule}
+use Rattle.hall.specs.Hall.{Entry, at1, at0, device, Rule, Hall}
 use Rattle.lists.specs.Lists.{Each}
-use Rattle.hall.specs.Ranges.{RuleInRange, wordsOf, numberWords, entryWords, ruleWords}
+use Rattle.hall.specs.Ranges.{RuleInRange, wordsOf, numberWords, entryWords, ruleWords, words, SheetOf}
 use Rattle.hall.specs.Bound.{entries}
 use Rattle.hall.proofs.Reading.{drop-word, past}
 use Rattle.sheet.specs.Coded.{entryCode, entryCodes, startsFrom}
@@ -113,3 +113,32 @@ starts-stand ws at first (r ∷ rs) e = made (rule-stands ws at r (wordsOf ruleW
     made : RuleStands ws at r (wordsOf ruleWords rs) → (drop (at + 1 + length r) ws ≡ wordsOf ruleWords rs → startsIn ws (at + 1 + length r) (first + length r) (length rs) ≡ startsFrom (first + length r) rs)
         → first ∷ startsIn ws (at + 1 + valueAt ws at) (first + valueAt ws at) (length rs) ≡ first ∷ startsFrom (first + length r) rs
     made t ih = rw (t .width, ih (t .next))
+
+-- ── how many ──
+pub codes-length : (es : List Entry) → length (entryCodes es) ≡ length es
+unfolding entryCodes
+codes-length [] = refl
+codes-length (e ∷ es) = ap suc (codes-length es)
+
+pub starts-length : (first : ℕ) (rs : List Rule) → length (startsFrom first rs) ≡ suc (length rs)
+unfolding startsFrom
+starts-length first [] = refl
+starts-length first (r ∷ rs) = ap suc (starts-length (first + length r) rs)
+
+-- there are no more entries than words
+rule-entries : (rs : List Rule) → length (entries rs) ≤ length (wordsOf ruleWords rs)
+unfolding entries wordsOf ruleWords
+rule-entries [] = zero-le
+rule-entries (r ∷ rs) = omega (
+  arith,
+  length-append r (entries rs),
+  length-append (wordsOf entryWords r) (wordsOf ruleWords rs),
+  entry-words-length r,
+  rule-entries rs,
+)
+
+pub few-entries : {h : Hall} {ws : List ℤ} {room : ℕ} → SheetOf h ws room → length (entries (h .rules)) ≤ 16384
+unfolding words
+few-entries {h} {ws} s =
+    let short = s .short in
+    omega (arith, ap length (s .sheet), length-append (wordsOf numberWords (h .costs)) (pos (length (h .rules)) ∷ wordsOf ruleWords (h .rules)), rule-entries (h .rules))

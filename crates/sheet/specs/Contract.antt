@@ -5,8 +5,8 @@ use mathlib.Core.Path.{_≡_}
 use mathlib.Core.List.{List, [], _∷_}
 use Prim.Native.Nat.{ℕ}
 use lib.ListN.{length}
-use lib.Seq.{sets}
 use lib.IntN.{ℤ}
+use Rattle.lists.specs.Lists.{inFront}
 use Rattle.hall.specs.Hall.{Hall}
 use Rattle.hall.specs.Bound.{entries}
 use Rattle.hall.specs.Reading.{Fault, tooShort, badCount, badCost, badEntry, extraWords, smallRoom, tooLong, faultCode, Read, bad, got, decode}
@@ -37,10 +37,6 @@ numbersOf (sheet.Refused kind place) = refusalCode kind ∷ place ∷ []
 abbrev pub numbersRead : Read Hall → List ℕ
 numbersRead (bad f i) = faultCode f ∷ i ∷ []
 numbersRead (got h j) = 0 ∷ length (h .costs) ∷ length (h .rules) ∷ []
-
--- numbers stored one after another from the front of an array on; what lies behind them is unchanged
-abbrev pub inFront : List ℕ → List ℕ → List ℕ
-inFront numbers array = sets array 0 numbers
 
 -- the arrays afterwards: unchanged on a refusal; else exactly the decoded hall in front
 pub record Kept (costs codes starts costs' codes' starts' : List ℕ) : Type 0 where

@@ -1,10 +1,10 @@
 -- The rules of a good sheet, from a place on, and what is written of them into the arrays.
 --
--- In order: the codes and starts of so many rules, word by word; where a good sheet's rules stand; what writing them leaves.
--- Definitions only.
+-- In order: the codes and starts of so many rules, word by word; where a good sheet's rules stand, and the place that the
+-- arrays have for them; what writing them leaves. Definitions only.
 use mathlib.Core.Path.{_≡_}
 use mathlib.Core.List.{List, [], _∷_, _++_}
-use Prim.Native.Nat.{ℕ, zero, suc, _+_, _≤_}
+use Prim.Native.Nat.{ℕ, zero, suc, _+_, _≤_, _<_}
 use lib.ListN.{length, drop}
 use lib.Seq.{sets}
 use lib.IntN.{ℤ}
@@ -34,11 +34,16 @@ pub record RulesStand (n : ℕ) (ws : List ℤ) (at m : ℕ) : Type 0 where
   pub short : length ws ≤ 16384
   pub inside : at ≤ length ws
 
+-- the arrays have place for what a sheet of m rules says of them: no more codes than words, and one start more than rules
+pub record RulesRoom (ws : List ℤ) (m : ℕ) (codes starts : List ℕ) : Type 0 where
+  pub codes-room : length ws ≤ length codes
+  pub starts-room : m < length starts
+
 -- so many entries of one of n devices, from a place on, have room from a code's place on
-pub record CodesRoom (at width n first : ℕ) : Type 0 where
+pub record CodesRoom (at width n first : ℕ) (codes : List ℕ) : Type 0 where
   pub devices : n ≤ 200
   pub short : at + width ≤ 16384
-  pub room : first + width ≤ 16384
+  pub room : first + width ≤ length codes
 
 -- the arrays after the rules were written
 pub record RulesPut (n : ℕ) (ws : List ℤ) (at m : ℕ) (codes starts codes' starts' : List ℕ) : Type 0 where

@@ -1,15 +1,16 @@
 // A good sheet is coded into the lent arrays: the costs; all entries in one run of codes; the starts of the rules.
 ghost use mathlib.Core.Path.{_≡_};
 ghost use Prim.Native.Nat.{_+_, _≤_};
+ghost use lib.ListN.{length};
 ghost use lib.Seq.{sets};
 ghost use Rattle.sheet.specs.Word.{numbersFrom, codesFrom};
-ghost use Rattle.sheet.specs.Placed.{RulesStand, CodesRoom, RulesPut};
+ghost use Rattle.sheet.specs.Placed.{RulesStand, RulesRoom, CodesRoom, RulesPut};
 use crate::word::code_at;
 use crate::word::value_at;
 
 // The costs, device 1 first.
-pub(crate) fn put_costs(words: &[i32], n: usize, costs: &mut [u32; 200])
-    requires { ⌜ n ≤ 200 ⌝ }
+pub(crate) fn put_costs(words: &[i32], n: usize, costs: &mut [u32])
+    requires { ⌜ n ≤ length (now costs) ⌝ }
     ensures { λ _. ⌜ now (costs .exit) ≡ sets (now (costs .entry)) 0 (numbersFrom (now (words .entry)) 1 n) ⌝ }
 {
     let mut i: usize = 0;
@@ -20,15 +21,8 @@ pub(crate) fn put_costs(words: &[i32], n: usize, costs: &mut [u32; 200])
 }
 
 // The entries of one rule, as codes.
-fn put_entries(
-    words: &[i32],
-    at: usize,
-    width: usize,
-    n: u32,
-    first: usize,
-    codes: &mut [u16; 16384],
-)
-    requires { ⌜ CodesRoom at width n first ⌝ }
+fn put_entries(words: &[i32], at: usize, width: usize, n: u32, first: usize, codes: &mut [u16])
+    requires { ⌜ CodesRoom at width n first (now codes) ⌝ }
     ensures { λ _. ⌜ now (codes .exit) ≡ sets (now (codes .entry)) first (codesFrom n (now (words .entry)) at width) ⌝ }
 {
     let mut i: usize = 0;
@@ -39,14 +33,9 @@ fn put_entries(
 }
 
 // The rules of a good sheet of n devices: rule by rule its start, and its entries' codes behind those of the rule before.
-pub(crate) fn put_rules(
-    words: &[i32],
-    n: usize,
-    m: usize,
-    codes: &mut [u16; 16384],
-    starts: &mut [u16; 2001],
-)
+pub(crate) fn put_rules(words: &[i32], n: usize, m: usize, codes: &mut [u16], starts: &mut [u16])
     requires { ⌜ RulesStand n (now words) (n + 2) m ⌝ }
+    requires { ⌜ RulesRoom (now words) m (now codes) (now starts) ⌝ }
     ensures { λ _. ⌜ RulesPut n (now (words .entry)) (n + 2) m (now (codes .entry)) (now (starts .entry)) (now (codes .exit)) (now (starts .exit)) ⌝ }
 {
     let mut place = n + 2;

@@ -33,10 +33,7 @@ part-solve-end : tie.Need-part-solve-end
 part-solve-end c = search call-few
 
 solve-requires : tie.Need-solve-requires
-solve-requires c κs =
-    let read = c .before .before .before .before .before .before .before .before in
-    let blank = read .before .before .before .before in
-    search (call-solvable, read .read .ensures, blank .before .before .costs-room .ensures, blank .before .codes-room .ensures, blank .starts-room .ensures)
+solve-requires c κs = search call-solvable
 
 returns : tie.Need-returns
 returns c = search call-refused
@@ -45,12 +42,7 @@ same-length : tie.Need-same-length
 same-length c = search needs
 
 returns-2 : tie.Need-returns-2
-returns-2 c =
-    let solved = c .before .before in
-    let told = solved .before .before .before .before .before .before .before in
-    let read = told .before .before in
-    let blank = read .before .before .before .before in
-    search (call-found, solved .solve .ensures, told .n .given .1, read .read .ensures, blank .before .before .costs-room .ensures, blank .before .codes-room .ensures, blank .starts-room .ensures)
+returns-2 c = search call-found
 
 pub least-plan-spec : {M : Type 1} → statement M
 least-plan-spec =

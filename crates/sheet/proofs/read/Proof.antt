@@ -1,5 +1,5 @@
 -- `read` meets its contract: a refusal is the check's, and a good sheet's hall lies in the arrays (Decoding). Assumes nothing.
-use Rattle.sheet.proofs.Decoding.{read-refused, accepted-few, accepted-rules, read-hall}
+use Rattle.sheet.proofs.Decoding.{read-refused, accepted-costs, accepted-rules, accepted-room, read-hall}
 use borrow.Author.Needs.{needs}
 use Rattle.sheet.proofs.read.Statement.{statement}
 use Rattle.sheet.proofs.read.Tie as tie
@@ -14,10 +14,10 @@ enum-known-n : tie.Need-enum-known-n
 enum-known-n c = search needs
 
 put-costs-requires : tie.Need-put-costs-requires
-put-costs-requires c κs = search accepted-few
+put-costs-requires c κs = search accepted-costs
 
 put-rules-requires : tie.Need-put-rules-requires
-put-rules-requires c κs = search accepted-rules
+put-rules-requires c κs = search (accepted-rules, accepted-room)
 
 returns : tie.Need-returns
 returns c = search read-refused

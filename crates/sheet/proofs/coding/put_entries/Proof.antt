@@ -3,7 +3,9 @@ use Prim.Native.Nat.{_+_, _-_}
 use mathlib.Core.Path.{_≡_}
 use native.Mathlib.Nat.{sub-zero, add-zero}
 use native.Mathlib.Omega.{arith}
+use lib.ListN.{length}
 use lib.Seq.{sets}
+use Rattle.lists.proofs.InFront.{sets-as-long}
 use Rattle.sheet.specs.Word.{codeAt, codesFrom}
 use Rattle.sheet.proofs.Placing.{run-more, run-end}
 use borrow.Author.Needs.{needs}
@@ -17,6 +19,13 @@ Inv-loop words at width n first codes₀ i₀ codes i = sets codes (first + i) (
 -- Measure: the entries left.
 abbrev μ-loop : tie.MeasureT-loop
 μ-loop words at width n first codes₀ i₀ codes i = width - i
+
+-- The array stays as long as it was.
+long : (l : tie.At-loop Inv-loop μ-loop) → length (l .loop .codes) ≡ length (l .before .before .args .codes .now)
+long l =
+    let a = l .before .before .args in
+    let i = l .loop .i in
+    sets-as-long (l .loop .codes) (a .codes .now) (a .first + i) (a .first) (codesFrom (a .n) (a .words .now) (a .at + i) (a .width - i)) (codesFrom (a .n) (a .words .now) (a .at) (a .width)) (l .loop .inv)
 
 loop-holds : tie.Need-loop-holds Inv-loop μ-loop
 loop-holds c = search (sub-zero, add-zero)
@@ -33,8 +42,8 @@ add-codes c = search needs
 mul-codes : tie.Need-mul-codes Inv-loop μ-loop
 mul-codes c = search needs
 
-element-write-codes : tie.Need-element-write-codes Inv-loop μ-loop
-element-write-codes c = search needs
+slice-write-codes : tie.Need-slice-write-codes Inv-loop μ-loop
+slice-write-codes c = let same = long (c .before .before) in search needs
 
 add-i : tie.Need-add-i Inv-loop μ-loop
 add-i c = search needs
@@ -45,7 +54,7 @@ loop-less c = search needs
 loop-again : tie.Need-loop-again Inv-loop μ-loop
 loop-again c =
     let l = c .before .before in
-    let a = l .before .args in
+    let a = l .before .before .args in
     let i = l .loop .i in
     run-more (codeAt (a .n) (a .words .now)) (l .loop .codes) (a .first + i) (a .at + i) (a .width - i) _ (l .loop .inv) (c .code-at .result)
     (a .first + (i + 1))
@@ -57,10 +66,13 @@ loop-again c =
     (omega arith)
     (omega arith)
 
+same-length : tie.Need-same-length Inv-loop μ-loop
+same-length c = long (c .before)
+
 returns : tie.Need-returns Inv-loop μ-loop
 returns c =
     let l = c .before in
-    let a = l .before .args in
+    let a = l .before .before .args in
     let i = l .loop .i in
     run-end (codeAt (a .n) (a .words .now)) (l .loop .codes) (a .first + i) (a .at + i) (a .width - i) _ (l .loop .inv) (omega arith)
 
@@ -75,8 +87,9 @@ put-entries-spec =
     code-at-requires
     add-codes
     mul-codes
-    element-write-codes
+    slice-write-codes
     add-i
     loop-less
     loop-again
+    same-length
     returns)

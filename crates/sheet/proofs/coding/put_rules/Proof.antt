@@ -1,7 +1,7 @@
 -- `put_rules` meets its contract: rule by rule its start and its codes, then the end of the last (Putting). Assumes nothing.
 use Prim.Native.Nat.{_+_, _-_}
 use Rattle.sheet.specs.Placed.{CodesRoom}
-use Rattle.sheet.proofs.Putting.{Putting, putting-start, putting-small, putting-room, putting-more, putting-end}
+use Rattle.sheet.proofs.Putting.{Putting, putting-start, putting-small, codes-long, start-put, start-room, putting-room, putting-more, putting-end}
 use borrow.Author.Needs.{needs}
 use Rattle.sheet.proofs.coding.put_rules.Statement.{statement}
 use Rattle.sheet.proofs.coding.put_rules.Tie as tie
@@ -16,14 +16,16 @@ abbrev μ-loop : tie.MeasureT-loop
 μ-loop words n m codes₀ starts₀ place₀ first₀ r₀ codes starts place first r = m - r
 
 -- The rule at hand has room, on the sheet and in the codes.
-at-hand : (k : tie.After-value-at Inv-loop μ-loop) → CodesRoom (k .before .before .loop .place + 1) (k .value-at .result) (k .before .before .before .args .n) (k .before .before .loop .first)
-at-hand k = putting-room (k .before .before .loop .inv) (k .before .loop-test .taken) _ (k .value-at .ensures)
+at-hand : (k : tie.After-value-at Inv-loop μ-loop) →
+    let l = k .before .before in
+    CodesRoom (l .loop .place + 1) (k .value-at .result) (l .before .before .before .args .n) (l .loop .first) (l .loop .codes)
+at-hand k = let l = k .before .before in putting-room (l .loop .inv) (l .before .before .before .pre .1) (k .before .loop-test .taken) _ (k .value-at .ensures)
 
 add-place : tie.Need-add-place Inv-loop μ-loop
-add-place c = let few = c .pre .devices in search needs
+add-place c = let few = c .before .before .pre .0 .devices in search needs
 
 loop-holds : tie.Need-loop-holds Inv-loop μ-loop
-loop-holds c = putting-start _ _ _ _ _ (c .pre)
+loop-holds c = putting-start _ _ _ _ _ (c .before .before .pre .0)
 
 cast-starts : tie.Need-cast-starts Inv-loop μ-loop
 cast-starts c = let small = putting-small (c .before .loop .inv) in search needs
@@ -31,8 +33,8 @@ cast-starts c = let small = putting-small (c .before .loop .inv) in search needs
 mul-starts : tie.Need-mul-starts Inv-loop μ-loop
 mul-starts c = search needs
 
-element-write-starts : tie.Need-element-write-starts Inv-loop μ-loop
-element-write-starts c = search needs
+slice-write-starts : tie.Need-slice-write-starts Inv-loop μ-loop
+slice-write-starts c = let l = c .before in start-room (l .loop .inv) (l .before .before .before .pre .1) _ (search needs)
 
 value-at-requires : tie.Need-value-at-requires Inv-loop μ-loop
 value-at-requires c κs = search needs
@@ -50,13 +52,13 @@ put-entries-requires : tie.Need-put-entries-requires Inv-loop μ-loop
 put-entries-requires c κs = at-hand (c .before)
 
 add-place-2 : tie.Need-add-place-2 Inv-loop μ-loop
-add-place-2 c = let room = at-hand (c .before .before) in search needs
+add-place-2 c = let room = at-hand (c .before .before .before .before) in search needs
 
 add-place-3 : tie.Need-add-place-3 Inv-loop μ-loop
-add-place-3 c = let room = at-hand (c .before .before) in search needs
+add-place-3 c = let room = at-hand (c .before .before .before .before) in search needs
 
 add-first : tie.Need-add-first Inv-loop μ-loop
-add-first c = let room = at-hand (c .before .before) in search needs
+add-first c = let room = at-hand (c .before .before .before .before) in search needs
 
 add-r : tie.Need-add-r Inv-loop μ-loop
 add-r c = search needs
@@ -66,8 +68,9 @@ loop-less c = search needs
 
 loop-again : tie.Need-loop-again Inv-loop μ-loop
 loop-again c =
-    let t = c .before .before .before in
-    putting-more (t .before .loop .inv) (t .loop-test .taken) _ _ (c .before .before .value-at .ensures) (c .put-entries .ensures)
+    let put = c .before .before in
+    let k = put .before .before in
+    putting-more (k .before .before .loop .inv) (k .before .loop-test .taken) _ _ (k .value-at .ensures) (put .put-entries .ensures)
 
 cast-starts-2 : tie.Need-cast-starts-2 Inv-loop μ-loop
 cast-starts-2 c = let small = putting-small (c .before .loop .inv) in search needs
@@ -75,8 +78,14 @@ cast-starts-2 c = let small = putting-small (c .before .loop .inv) in search nee
 mul-starts-2 : tie.Need-mul-starts-2 Inv-loop μ-loop
 mul-starts-2 c = search needs
 
-element-write-starts-2 : tie.Need-element-write-starts-2 Inv-loop μ-loop
-element-write-starts-2 c = search needs
+slice-write-starts-2 : tie.Need-slice-write-starts-2 Inv-loop μ-loop
+slice-write-starts-2 c = let l = c .before in start-room (l .loop .inv) (l .before .before .before .pre .1) _ (search needs)
+
+same-length : tie.Need-same-length Inv-loop μ-loop
+same-length c = search codes-long
+
+same-length-2 : tie.Need-same-length-2 Inv-loop μ-loop
+same-length-2 c = search start-put
 
 returns : tie.Need-returns Inv-loop μ-loop
 returns c = putting-end (c .before .loop .inv) (c .loop-test .left)
@@ -91,7 +100,7 @@ put-rules-spec =
     loop-holds
     cast-starts
     mul-starts
-    element-write-starts
+    slice-write-starts
     value-at-requires
     cast-width
     add-put-entries
@@ -105,5 +114,7 @@ put-rules-spec =
     loop-again
     cast-starts-2
     mul-starts-2
-    element-write-starts-2
+    slice-write-starts-2
+    same-length
+    same-length-2
     returns)
