@@ -1,34 +1,49 @@
--- What each arm of `leastplan_search` stores is the paper's numbers of the search's answer, and these are the definition's.
+-- What each arm of `leastplan_search` tells is the paper's numbers of the search's answer, and these are the definition's.
 --
--- In order: any answer whose numbers are stored; the four cases. Assumes nothing.
-use mathlib.Core.Path.{_≡_, sym, ap, subst}
+-- In order: the numbers told so far, and one more (`tell-room`, `tell-more`, `tell-end`, `tell-long`); a case of the
+-- answer whose numbers are told (`told-case`), a refusal among them (`told-refused`). Assumes nothing.
+use mathlib.Core.Path.{_≡_, sym, _∙_, ap}
 use mathlib.Core.List.{List, [], _∷_}
-use Prim.Native.Nat.{ℕ}
-use lib.Seq.{sets}
+use Prim.Native.Nat.{ℕ, _+_, _≤_, _<_}
+use native.Mathlib.Omega.{arith}
+use lib.ListN.{length, getD, set, take}
+use lib.Seq.{length-take-le, take-all}
 use lib.IntN.{ℤ}
+use Rattle.lists.specs.Lists.{inFront}
+use Rattle.lists.proofs.InFront.{room-as-long, front-grows}
 use Rattle.sheet.specs.Contract.{refusalCode}
 use Rattle.sheet.specs.declared.Refusal.{Refusal}
 use Rattle.search.specs.Contract.{numbersOf, Finds}
 use Rattle.search.specs.declared.Answer.{Answer}
-use Rattle.search.specs.declared.Answer.the-variants.{Least, None, Spent, Refused}
+use Rattle.search.specs.declared.Answer.the-variants.{Refused}
 use Rattle.exported.specs.Exported.{Searches}
 
-module _ {ws : List ℤ} {budget : ℕ} {before after : List ℕ} (numbers : List ℕ) {r : Answer} (f : Finds ws budget before r after) where
-  told : Searches ws budget before numbers after (sets numbers 0 (numbersOf r))
-  told = record { told = ap (sets numbers 0) (f .says); room = f .room; value = r; finds = f }
+-- ── the numbers told so far ──
+module _ (all before : List ℕ) (fits : length all ≤ length before) (numbers : List ℕ) (i : ℕ) (so-far : numbers ≡ inFront (take i all) before) where
+  pub tell-room : i < length all → i < length numbers
+  tell-room l =
+      let size = length-take-le i all (omega arith) in
+      omega (arith, size, ap length so-far, room-as-long (take i all) before (omega arith))
 
-  -- the numbers of a case, stored
-  told-case : (s : Answer) → r ≡ s → Searches ws budget before numbers after (sets numbers 0 (numbersOf s))
-  told-case s e = subst (λ a. Searches ws budget before numbers after (sets numbers 0 (numbersOf a))) e told
+  pub tell-more : i < length all → set numbers i (getD all i 0) ≡ inFront (take (i + 1) all) before
+  tell-more l = ap (λ (r : List ℕ). set r i (getD all i 0)) so-far ∙ front-grows all before i 0 l fits
 
-  pub told-least : {cost held opened : ℕ} → r ≡ Least cost held opened → Searches ws budget before numbers after (sets numbers 0 (0 ∷ cost ∷ held ∷ opened ∷ []))
-  told-least {cost} {held} {opened} = told-case (Least cost held opened)
+  pub tell-end : length all ≤ i → numbers ≡ inFront all before
+  tell-end l = so-far ∙ ap (λ (front : List ℕ). inFront front before) (take-all i all l)
 
-  pub told-none : {opened : ℕ} → r ≡ None opened → Searches ws budget before numbers after (sets numbers 0 (1 ∷ opened ∷ []))
-  told-none {opened} = told-case (None opened)
+  pub tell-long : length all ≤ i → length numbers ≡ length before
+  tell-long l = ap length (tell-end l) ∙ room-as-long all before fits
 
-  pub told-spent : {opened : ℕ} → r ≡ Spent opened → Searches ws budget before numbers after (sets numbers 0 (2 ∷ opened ∷ []))
-  told-spent {opened} = told-case (Spent opened)
+-- ── the numbers of an answer ──
+module _ {ws : List ℤ} {budget : ℕ} {before after numbers numbers′ : List ℕ} {r : Answer} (f : Finds ws budget before r after) where
+  pub told-case : {s : Answer} → r ≡ s → numbers′ ≡ inFront (numbersOf s) numbers → Searches ws budget before numbers after numbers′
+  told-case {s} e t = record {
+    told = t ∙ ap (λ (front : List ℕ). inFront front numbers) (sym (ap numbersOf e) ∙ f .says);
+    room = f .room;
+    value = r;
+    finds = f;
+  }
 
-  pub told-refused : {kind : Refusal} {code place : ℕ} → r ≡ Refused kind place → code ≡ refusalCode kind → Searches ws budget before numbers after (sets numbers 0 (code ∷ place ∷ []))
-  told-refused {kind} {code} {place} e c = subst (λ n. Searches ws budget before numbers after (sets numbers 0 (n ∷ place ∷ []))) (sym c) (told-case (Refused kind place) e)
+  -- the code of a refusal is the one that the sheet's reader gives for its kind
+  pub told-refused : {kind : Refusal} {code place : ℕ} → r ≡ Refused kind place → code ≡ refusalCode kind → numbers′ ≡ inFront (code ∷ place ∷ []) numbers → Searches ws budget before numbers after numbers′
+  told-refused {kind} {code} {place} e c t = told-case e (t ∙ ap (λ (n : ℕ). inFront (n ∷ place ∷ []) numbers) c)

@@ -2,9 +2,25 @@
 //
 // C has no value with cases, so the answer goes into an array: the code, then what is returned, in the table's order. Every plain
 // name of the archive begins with the library's.
+ghost use mathlib.Core.Path.{_≡_};
+ghost use Prim.Native.Nat.{_≤_};
+ghost use lib.ListN.{length};
+ghost use Rattle.lists.specs.Lists.{inFront};
 ghost use Rattle.exported.specs.Exported.{Searches};
 ghost use Rattle.reply.specs.Contract.{Replies};
 use search::Answer;
+
+// The numbers of an answer go to the front of the array; what lies behind them stays.
+fn tell(told: &[u64], numbers: &mut [u64])
+    requires { ⌜ length (now told) ≤ length (now numbers) ⌝ }
+    ensures { λ _. ⌜ now (numbers .exit) ≡ inFront (now (told .entry)) (now (numbers .entry)) ⌝ }
+{
+    let mut i: usize = 0;
+    while i < told.len() {
+        numbers[i] = told[i];
+        i += 1;
+    }
+}
 
 // 01, "The answer sheet of the search": the least plan of a sheet, under a budget of trial plans; its marks go to the front of the
 // room, its numbers to `numbers`.
@@ -19,22 +35,20 @@ pub extern "C" fn leastplan_search(
 {
     match search::least_plan(words, budget, room) {
         Answer::Least(cost, held, opened) => {
-            numbers[0] = 0;
-            numbers[1] = cost;
-            numbers[2] = held as u64;
-            numbers[3] = opened as u64;
+            let told = [0, cost, held as u64, opened as u64];
+            tell(&told, numbers);
         }
         Answer::None(opened) => {
-            numbers[0] = 1;
-            numbers[1] = opened as u64;
+            let told = [1, opened as u64];
+            tell(&told, numbers);
         }
         Answer::Spent(opened) => {
-            numbers[0] = 2;
-            numbers[1] = opened as u64;
+            let told = [2, opened as u64];
+            tell(&told, numbers);
         }
         Answer::Refused(kind, place) => {
-            numbers[0] = sheet::code_of(kind) as u64;
-            numbers[1] = place as u64;
+            let told = [sheet::code_of(kind) as u64, place as u64];
+            tell(&told, numbers);
         }
     }
 }
