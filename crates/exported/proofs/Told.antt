@@ -1,7 +1,7 @@
 -- What each arm of `leastplan_search` tells is the paper's numbers of the search's answer, and these are the definition's.
 --
--- In order: the numbers told so far, and one more (`tell-room`, `tell-more`, `tell-end`, `tell-long`); a case of the
--- answer whose numbers are told (`told-case`), a refusal among them (`told-refused`). Assumes nothing.
+-- In order: the numbers told so far (`tell-room`, `tell-more`, `tell-end`, `tell-long`); a case of the answer whose numbers are told
+-- (`told-case`), and a refusal, whose code another function gives (`told-refused`). Assumes nothing.
 use mathlib.Core.Path.{_≡_, sym, _∙_, ap}
 use mathlib.Core.List.{List, [], _∷_}
 use Prim.Native.Nat.{ℕ, _+_, _≤_, _<_}
@@ -44,6 +44,5 @@ module _ {ws : List ℤ} {budget : ℕ} {before after numbers numbers′ : List 
     finds = f;
   }
 
-  -- the code of a refusal is the one that the sheet's reader gives for its kind
   pub told-refused : {kind : Refusal} {code place : ℕ} → r ≡ Refused kind place → code ≡ refusalCode kind → numbers′ ≡ inFront (code ∷ place ∷ []) numbers → Searches ws budget before numbers after numbers′
   told-refused {kind} {code} {place} e c t = told-case e (t ∙ ap (λ (n : ℕ). inFront (n ∷ place ∷ []) numbers) c)

@@ -1,6 +1,7 @@
 -- Laws of `inFront`: what stands in front (`front-stands`), the rest of the room (`rest-stays`), its length (`room-as-long`,
--- `front-fits`), and one element more in front (`front-grows`); stores from the front of a room on that has place for them (`sets-in-front`), one run of stores behind another
--- (`sets-append`), and rooms that stores make equal, which are equally long (`sets-as-long`). Assumes nothing.
+-- `front-fits`), one element more in front (`front-grows`); stores from the front of a room on that has place for them
+-- (`sets-in-front`), one run of stores behind another (`sets-append`), rooms that stores make equal are equally long
+-- (`sets-as-long`). Assumes nothing.
 use mathlib.Core.Path.{_≡_, sym, _∙_, ap}
 use mathlib.Core.List.{List, [], _∷_, _++_, append-assoc}
 use Prim.Native.Nat.{ℕ, suc, _+_, _≤_, _<_}
@@ -26,16 +27,9 @@ module _ {A : Type 0} where
   pub front-grows : (front room : List A) (i : ℕ) (d : A) → i < length front → length front ≤ length room
       → set (inFront (take i front) room) i (getD front i d) ≡ inFront (take (i + 1) front) room
   front-grows front room i d l m =
-      let x = getD front i d in
       let size : length (take i front) ≡ i = length-take-le i front (omega arith) in
-      let size′ : length (take (i + 1) front) ≡ suc i = length-take-le (i + 1) front (omega arith) ∙ add-one i in
-      let one : take (i + 1) front ≡ take i front ++ (x ∷ []) = ap (λ (k : ℕ). take k front) (add-one i) ∙ take-suc front i d l in
-      let opened : inFront (take i front) room ≡ take i front ++ (getD room i d ∷ drop (suc i) room) =
-      ap (λ (k : ℕ). take i front ++ drop k room) size ∙ ap (λ (r : List A). take i front ++ r) (drop-cons room i d (omega arith)) in
-      ap (λ (r : List A). set r i x) opened
-      ∙ set-at (take i front) (getD room i d) (drop (suc i) room) x i size
-      ∙ sym (append-assoc (take i front) (x ∷ []) (drop (suc i) room))
-      ∙ sym (ap (λ (r : List A). r ++ drop (length (take (i + 1) front)) room) one ∙ ap (λ (k : ℕ). (take i front ++ (x ∷ [])) ++ drop k room) size′)
+      rw (add-one i, length-take-le (suc i) front l, take-suc front i d l, size, drop-cons room i d (omega arith))
+      (set-at (take i front) (getD room i d) (drop (suc i) room) (getD front i d) i size ∙ sym (append-assoc (take i front) (getD front i d ∷ []) (drop (suc i) room)))
 
   pub sets-in-front : (front room : List A) → length front ≤ length room → sets room 0 front ≡ inFront front room
   sets-in-front front room l =
