@@ -109,11 +109,11 @@ pub step-refuses : {A : Type 0} (r : Read A) (s : Step) (kind : Refusal) (place 
 step-refuses (bad f i) s kind place e u = record { fault = f; is = let z : i ≡ place = cc in rw z; same = cc }
 step-refuses (got a j) s kind place e u = absurd (let z : _≡_ {A = ℕ} 0 1 = cc in omega arith)
 
-pub record Gives {A : Type 0} (r : Read A) (j : ℕ) : Type 0 where
+pub record NextAt {A : Type 0} (r : Read A) (j : ℕ) : Type 0 where
   pub value : A
   pub is : r ≡ got value j
 
-pub step-gives : {A : Type 0} (r : Read A) (s : Step) (j : ℕ) → s ≡ stepOf r → s ≡ step.Next j → Gives r j
+pub step-gives : {A : Type 0} (r : Read A) (s : Step) (j : ℕ) → s ≡ stepOf r → s ≡ step.Next j → NextAt r j
 step-gives (bad f i) s j e u = absurd (let z : _≡_ {A = ℕ} 0 1 = cc in omega arith)
 step-gives (got a k) s j e u = record { value = a; is = let z : k ≡ j = cc in rw z }
 

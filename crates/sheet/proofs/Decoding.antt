@@ -1,6 +1,6 @@
 -- The contract of `read`, from the check's answer and from what was written.
 --
--- In order: the numbers of an answer (`numbers-same`); a refused sheet (`read-refused`); an accepted sheet (`Accepted`), what stands on
+-- In order: the numbers of an answer (`numbers-same`); a refused sheet (`read-refused`); an accepted sheet (`GoodSheet`), what stands on
 -- it (`accepted-rules`), that the arrays have place for it (`accepted-costs`, `accepted-room`), and what they hold of it (`read-hall`).
 -- Assumes nothing.
 use mathlib.Core.Path.{_≡_, refl, sym, _∙_, ap, subst}
@@ -55,7 +55,7 @@ module _ (ws : List ℤ) (room : ℕ) (s : Sheet) (e : s ≡ sheetOf (decode roo
       go (got h j) e = absurd (let z : _≡_ {A = ℕ} 0 1 = cc in omega arith)
 
   -- ── an accepted sheet ──
-  record Accepted (n m : ℕ) : Type 0 where
+  record GoodSheet (n m : ℕ) : Type 0 where
     whole : Hall
     place : ℕ
     is : decode room ws ≡ got whole place
@@ -63,15 +63,15 @@ module _ (ws : List ℤ) (room : ℕ) (s : Sheet) (e : s ≡ sheetOf (decode roo
     count : length (whole .rules) ≡ m
     sheet-of : SheetOf whole ws room
 
-  accepted : (n m : ℕ) → s ≡ sheet.Hall n m → Accepted n m
-  accepted n m u = go (decode room ws) refl (sym e ∙ u)
+  good-sheet : (n m : ℕ) → s ≡ sheet.Hall n m → GoodSheet n m
+  good-sheet n m u = go (decode room ws) refl (sym e ∙ u)
     where
-      go : (x : Read Hall) → decode room ws ≡ x → sheetOf x ≡ sheet.Hall n m → Accepted n m
+      go : (x : Read Hall) → decode room ws ≡ x → sheetOf x ≡ sheet.Hall n m → GoodSheet n m
       go (bad f i) d e = absurd (let z : _≡_ {A = ℕ} 0 1 = cc in omega arith)
       go (got h j) d e = record { whole = h; place = j; is = d; devices = cc; count = cc; sheet-of = decoded ws room h j d }
 
   accepted-few : (n m : ℕ) → s ≡ sheet.Hall n m → n ≤ 200
-  accepted-few n m u = let a = accepted n m u in let d = a .devices in let r = a .sheet-of .ranges .devices in omega arith
+  accepted-few n m u = let a = good-sheet n m u in let d = a .devices in let r = a .sheet-of .ranges .devices in omega arith
 
 -- the words of a hall, part by part
 cost-words-length : (cs : List ℕ) → length (wordsOf numberWords cs) ≡ length cs
@@ -99,7 +99,7 @@ parts ws h e =
 module _ (ws : List ℤ) (room : ℕ) (s : Sheet) (e : s ≡ sheetOf (decode room ws)) (n m : ℕ) (u : s ≡ sheet.Hall n m) where
   pub accepted-rules : RulesStand n ws (n + 2) m
   accepted-rules =
-      let a = accepted ws room s e n m u in
+      let a = good-sheet ws room s e n m u in
       let d = a .devices in
       let o = a .sheet-of in
       let p = parts ws (a .whole) (o .sheet) in
@@ -128,8 +128,8 @@ module _ (ws : List ℤ) (room : ℕ) (s : Sheet) (e : s ≡ sheetOf (decode roo
   pub read-hall : (costs codes starts costs′ codes′ starts′ : List ℕ) → length costs ≡ 200 → length codes ≡ 16384 → length starts ≡ 2001 → costs′ ≡ sets costs 0 (numbersFrom ws 1 n) → RulesPut n ws (n + 2) m codes starts codes′ starts′ → Decodes ws room costs codes starts (sheet.Hall n m) costs′ codes′ starts′
   read-hall costs codes starts costs′ codes′ starts′ lc lk ls put q = record { says = says-same ws room s e (sheet.Hall n m) u; arrays = subst (λ (x : Read Hall). ArraysAfter x costs codes starts costs′ codes′ starts′) (sym (a .is)) holds }
     where
-      a : Accepted ws room s e n m
-      a = accepted ws room s e n m u
+      a : GoodSheet ws room s e n m
+      a = good-sheet ws room s e n m u
 
       h : Hall
       h = a .whole

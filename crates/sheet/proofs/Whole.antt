@@ -20,7 +20,7 @@ use Rattle.sheet.specs.declared.check.Count.{Count}
 use Rattle.sheet.specs.declared.check.Count.the-variants as count
 use Rattle.sheet.specs.declared.check.Step.{Step}
 use Rattle.sheet.specs.declared.check.Step.the-variants as step
-use Rattle.sheet.proofs.Counts.{count-bad, count-got, step-refuses, Gives, step-gives}
+use Rattle.sheet.proofs.Counts.{count-bad, count-got, step-refuses, NextAt, step-gives}
 
 times-length : {A : Type 0} (k : ℕ) (r : Reader A) (ws : List ℤ) (i : ℕ) (l : List A) (j : ℕ) → times k r ws i ≡ got l j → length l ≡ k
 unfolding times
@@ -65,7 +65,7 @@ module _ (room : ℕ) (ws : List ℤ) (short : length ws ≤ 16384) where
           hall-bad (b .fault) place kind (b .same) (reads-on (word badCount (upTo 200)) _ ws 0 devices ∙ bad-then (times n cost) _ ws 1 (b .is))
 
       module _ (behind : ℕ) (u₂ : s₁ ≡ step.Next behind) (c₂ : Count) (e₃ : c₂ ≡ countOf (word badCount (upTo 2000) ws behind)) where
-        costs : Gives (times n cost ws 1) behind
+        costs : NextAt (times n cost ws 1) behind
         costs = step-gives (times n cost ws 1) s₁ behind e₂ u₂
 
         pub count-bad-too : (kind : Refusal) (place : ℕ) → c₂ ≡ count.Bad kind place → sheet.Refused kind place ≡ sheetOf (decode room ws)
@@ -88,7 +88,7 @@ module _ (room : ℕ) (ws : List ℤ) (short : length ws ≤ 16384) where
               ∙ bad-then (times m (rule n)) _ ws (behind + 1) (b .is))
 
           module _ (end : ℕ) (u₄ : s₂ ≡ step.Next end) where
-            rules : Gives (times m (rule n) ws (behind + 1)) end
+            rules : NextAt (times m (rule n) ws (behind + 1)) end
             rules = step-gives (times m (rule n) ws (behind + 1)) s₂ end e₄ u₄
 
             whole : Hall
