@@ -1,6 +1,6 @@
--- The items of a line, one by one: numbers (`numbers-more`, `numbers-room`, `numbers-end`), one device by its mark (`long-1`, `long-2`,
--- `puts-1`, `puts-2`, `puts-none`), and the devices of a plan room (`devices-more`,
--- `devices-room`, `devices-end`). Assumes nothing.
+-- The items of a line, one by one: numbers (`numbers-more`, `numbers-room`, `numbers-end`); one device by its mark, how long its entry is
+-- and that it was put (`long-1`, `long-2`, `puts-1`, `puts-2`, `puts-none`); the devices of a plan room (`devices-more`, `devices-room`,
+-- `devices-end`). Assumes nothing.
 use mathlib.Core.Path.{_≡_, refl, sym, _∙_, ap}
 use mathlib.Core.List.{List, [], _∷_, _++_, append-nil}
 use Prim.Native.Nat.{ℕ, zero, suc, _+_, _≤_, _<_}

@@ -1,6 +1,6 @@
--- Everything that is printed has place in a room of 1,024 bytes: the lines of none and spent (`none-fits`, `spent-fits`), of a refusal
--- (`refused-fits`), of a least plan (`least-fits`), at most 49 bytes; the entries of the held devices (`entries-short`), at most 892, in a
--- line of 897, and the room that is left for that line (`hold-fits`). Assumes nothing.
+-- Everything that is printed has place in a room of 1,024 bytes: the lines of none and spent (`none-fits`, `spent-fits`), of a refusal,
+-- whose numbers have 64 bits at most (`wider`, `refused-fits`), and of a least plan (`least-fits`), at most 49 bytes, which leave 975
+-- (`hold-fits`); the entries of the held devices (`entries-short`), at most 892, in a line of 897. Assumes nothing.
 use mathlib.Core.Path.{_≡_, refl}
 use mathlib.Core.List.{List, [], _∷_, _++_}
 use Prim.Native.Nat.{ℕ, zero, suc, _+_, _^_, _≤_, _<_}
@@ -19,37 +19,22 @@ use Rattle.reply.proofs.Putting.{puts-length}
 short-32 : (n : ℕ) → n < 2 ^ 32 → length (digitsOf n) ≤ 10
 short-32 n h = digits-few n n 9 (omega arith)
 
-pub wider : (n : ℕ) → n < 2 ^ 32 → n < 2 ^ 64
-wider n h = omega arith
-
 short-64 : (n : ℕ) → n < 2 ^ 64 → length (digitsOf n) ≤ 20
 short-64 n h = digits-few n n 19 (omega arith)
+
+pub wider : (n : ℕ) → n < 2 ^ 32 → n < 2 ^ 64
+wider n h = omega arith
 
 one-more : (n : ℕ) (numbers : List ℕ) → length (spaced digitsOf (n ∷ numbers)) ≡ 1 + length (digitsOf n) + length (spaced digitsOf numbers)
 unfolding spaced
 one-more n numbers = omega (arith, length-append (digitsOf n) (spaced digitsOf numbers))
 
-line-size : (word numbers : List ℕ) → length (line word digitsOf numbers) ≡ length word + length (spaced digitsOf numbers) + 1
-line-size word numbers = omega (arith, length-append word (spaced digitsOf numbers ++ lineEnd), length-append (spaced digitsOf numbers) lineEnd)
-
 no-more : length (spaced digitsOf []) ≡ 0
 unfolding spaced
 no-more = refl
 
-module _ (room : List ℕ) (size : length room ≡ 1024) where
-  count-fits : (word : List ℕ) (opened : ℕ) → length word ≤ 7 → opened < 2 ^ 32 → Fits (line word digitsOf (opened ∷ [])) 0 room
-  count-fits word opened w h = omega (arith, line-size word (opened ∷ []), one-more opened [], no-more, short-32 opened h)
-
-  pub none-fits : (opened : ℕ) → opened < 2 ^ 32 → Fits (line (bytes "none") digitsOf (opened ∷ [])) 0 room
-  none-fits opened h = count-fits (bytes "none") opened (omega arith) h
-
-  pub spent-fits : (opened : ℕ) → opened < 2 ^ 32 → Fits (line (bytes "spent") digitsOf (opened ∷ [])) 0 room
-  spent-fits opened h = count-fits (bytes "spent") opened (omega arith) h
-
--- of any two numbers
-pub refused-fits : (room : List ℕ) (code place : ℕ) → 1024 ≤ length room → code < 2 ^ 64 → place < 2 ^ 64 → Fits (refusedLine code place) 0 room
-refused-fits room code place large x y =
-    omega (arith, line-size (bytes "refused") (code ∷ place ∷ []), one-more code (place ∷ []), one-more place [], no-more, short-64 code x, short-64 place y)
+line-size : (word numbers : List ℕ) → length (line word digitsOf numbers) ≡ length word + length (spaced digitsOf numbers) + 1
+line-size word numbers = omega (arith, length-append word (spaced digitsOf numbers ++ lineEnd), length-append (spaced digitsOf numbers) lineEnd)
 
 least-short : (cost held opened : ℕ) → cost < 2 ^ 64 → held < 2 ^ 32 → opened < 2 ^ 32 → length (line (bytes "least") digitsOf (cost ∷ held ∷ opened ∷ [])) ≤ 49
 least-short cost held opened x y z =
@@ -65,9 +50,28 @@ least-short cost held opened x y z =
       short-32 opened z,
     )
 
-pub least-fits : (room : List ℕ) (cost held opened : ℕ) → length room ≡ 1024 → cost < 2 ^ 64 → held < 2 ^ 32 → opened < 2 ^ 32
-    → Fits (line (bytes "least") digitsOf (cost ∷ held ∷ opened ∷ [])) 0 room
-least-fits room cost held opened size x y z = omega (arith, least-short cost held opened x y z)
+module _ (room : List ℕ) (size : length room ≡ 1024) where
+  count-fits : (word : List ℕ) (opened : ℕ) → length word ≤ 7 → opened < 2 ^ 32 → Fits (line word digitsOf (opened ∷ [])) 0 room
+  count-fits word opened w h = omega (arith, line-size word (opened ∷ []), one-more opened [], no-more, short-32 opened h)
+
+  pub none-fits : (opened : ℕ) → opened < 2 ^ 32 → Fits (line (bytes "none") digitsOf (opened ∷ [])) 0 room
+  none-fits opened h = count-fits (bytes "none") opened (omega arith) h
+
+  pub spent-fits : (opened : ℕ) → opened < 2 ^ 32 → Fits (line (bytes "spent") digitsOf (opened ∷ [])) 0 room
+  spent-fits opened h = count-fits (bytes "spent") opened (omega arith) h
+
+  pub refused-fits : (code place : ℕ) → code < 2 ^ 64 → place < 2 ^ 64 → Fits (refusedLine code place) 0 room
+  refused-fits code place x y =
+      omega (arith, line-size (bytes "refused") (code ∷ place ∷ []), one-more code (place ∷ []), one-more place [], no-more, short-64 code x, short-64 place y)
+
+  pub least-fits : (cost held opened : ℕ) → cost < 2 ^ 64 → held < 2 ^ 32 → opened < 2 ^ 32 → Fits (line (bytes "least") digitsOf (cost ∷ held ∷ opened ∷ [])) 0 room
+  least-fits cost held opened x y z = omega (arith, least-short cost held opened x y z)
+
+  -- what the line of a least plan leaves
+  pub hold-fits : (cost held opened next : ℕ) (out : List ℕ) → cost < 2 ^ 64 → held < 2 ^ 32 → opened < 2 ^ 32
+      → Puts (line (bytes "least") digitsOf (cost ∷ held ∷ opened ∷ [])) 0 room next out → next + 975 ≤ length out
+  hold-fits cost held opened next out x y z p =
+      omega (arith, p .ends, least-short cost held opened x y z, puts-length _ 0 room next out p)
 
 -- ── the held devices ──
 -- room for a blank, a minus and the digits of each of so many devices from one on
@@ -94,8 +98,3 @@ all-devices = refl
 
 pub entries-short : (plan : List ℕ) → length (printedEntries (heldEntries (take 200 plan))) ≤ 892
 entries-short plan = omega (arith, devices-short 0 200 (take 200 plan) (omega (arith, length-take 200 plan)), all-devices)
-
-pub hold-fits : (cost held opened : ℕ) (before : List ℕ) (next : ℕ) (out : List ℕ) → cost < 2 ^ 64 → held < 2 ^ 32 → opened < 2 ^ 32 → length before ≡ 1024
-    → Puts (line (bytes "least") digitsOf (cost ∷ held ∷ opened ∷ [])) 0 before next out → next + 975 ≤ length out
-hold-fits cost held opened before next out x y z size p =
-    omega (arith, p .ends, least-short cost held opened x y z, puts-length _ 0 before next out p)

@@ -5,7 +5,7 @@
 -- the byte 10 (`word-room`, `items-room`, `close-room`, `line-puts`); items of which some are left (`Left`, `left-start`, `left-length`,
 -- `left-end`, `left-room`, `left-more`). Assumes nothing.
 use mathlib.Core.Path.{_≡_, refl, sym, _∙_, ap}
-use mathlib.Core.List.{List, [], _∷_, _++_}
+use mathlib.Core.List.{List, [], _++_}
 use Prim.Native.Nat.{ℕ, suc, _+_, _-_, _≤_, _<_}
 use native.Mathlib.Numerals.{add-one}
 use native.Mathlib.Nat.{add-zero, sub-zero}

@@ -1,4 +1,5 @@
 // The lines: a word and its numbers, a refusal among them; and the held devices.
+ghost use mathlib.Core.Path.{_≡_};
 ghost use mathlib.Core.List.{[]};
 ghost use Prim.Native.Nat.{_+_, _≤_, _<_};
 ghost use lib.ListN.{length, take};
@@ -36,7 +37,7 @@ pub(crate) fn put_line(word: &[u8], numbers: &[u64], at: usize, out: &mut [u8]) 
 
 // A refusal of either table, at the front of a reply's room.
 pub(crate) fn put_refused(code: u32, place: usize, out: &mut [u8]) -> usize
-    requires { ⌜ 1024 ≤ length (now out) ⌝ }
+    requires { ⌜ length (now out) ≡ 1024 ⌝ }
     ensures { λ r. ⌜ Puts (refusedLine code place) 0 (now (out .entry)) r (now (out .exit)) ⌝ }
 {
     let numbers = [code as u64, place as u64];
@@ -72,8 +73,7 @@ fn put_devices(plan: &[u8; 200], at: usize, out: &mut [u8]) -> usize
     next
 }
 
-// The line of the held devices; the word alone where there are none. It has at most 897 bytes, and the line before it at most 49 of
-// 1,024.
+// The line of the held devices; the word alone where there are none. It has at most 897 bytes; the line before it leaves 975.
 pub(crate) fn put_hold(plan: &[u8; 200], at: usize, out: &mut [u8]) -> usize
     requires { ⌜ at + 975 ≤ length (now out) ⌝ }
     ensures { λ r. ⌜ Puts (holdLine (take 200 (now (plan .entry)))) at (now (out .entry)) r (now (out .exit)) ⌝ }
