@@ -75,7 +75,7 @@ wrongBytes =
     -- the bytes 47 and 58, next to the digits
     ∷ row "/" 1 (21 ∷ 0 ∷ []) (+ 99 ∷ [])
     ∷ row "1:" 1 (21 ∷ 1 ∷ []) (+ 99 ∷ [])
-    -- the bytes 0, 11, 12, 128 and 255
+    -- the bytes 0, 11, 12, 128 and 255, the last as the character of that code
     ∷ row "1\0" 1 (21 ∷ 1 ∷ []) (+ 99 ∷ [])
     ∷ row "\u{b}" 1 (21 ∷ 0 ∷ []) (+ 99 ∷ [])
     ∷ row "1\u{c}2" 2 (21 ∷ 1 ∷ []) (+ 99 ∷ + 99 ∷ [])

@@ -1,4 +1,5 @@
--- `put_hold` meets its contract: the word, the entries, the end of the line (`line-puts`). Assumes nothing.
+-- `put_hold` meets its contract: the word, the entries, the end of the line (`line-puts`), for which there is place (`entries-short`).
+-- Assumes nothing.
 use mathlib.Core.List.{List}
 use Prim.Native.Nat.{ℕ}
 use native.Mathlib.Omega.{arith}
