@@ -1,6 +1,6 @@
 # Draws the lines of 'measure growth' (KIND SIZE OURS C, nanoseconds per node) as an SVG with one panel for each kind.
 #
-#   awk -f bench/plot.awk FIGURES
+#   awk -v machine=WORDS -f bench/plot.awk FIGURES
 
 BEGIN { wide = 330; high = 220; left = 70; top = 50; gap = 90 }
 
@@ -38,7 +38,7 @@ END {
     printf "<svg xmlns=\"http://www.w3.org/2000/svg\" width=\"%d\" height=\"%d\" font-family=\"sans-serif\" font-size=\"12\">\n", left + kinds * (wide + gap) - gap + 30, top + high + 60
     print "<style>.grid{stroke:#ddd}.axis{stroke:#333}.ours{stroke:#1f5fa8;fill:none;stroke-width:2}.c{stroke:#c2571a;fill:none;stroke-width:2;stroke-dasharray:5 3}</style>"
     print "<rect width=\"100%\" height=\"100%\" fill=\"white\"/>"
-    text(left, 20, "start", "Nanoseconds per opened node: the proved walk (whole line) and the same walk in C (broken line)")
+    text(left, 20, "start", "Nanoseconds per opened node: the proved walk (whole line) and the same walk in C (broken line); " machine)
     for (p = 1; p <= kinds; p++) {
         name = kind[p]
         for (v = 0; v <= ceiling; v += step) {

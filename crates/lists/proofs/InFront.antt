@@ -13,10 +13,10 @@ use Rattle.lists.specs.Lists.{inFront}
 
 module _ {A : Type 0} where
   pub front-stands : (front room : List A) → take (length front) (inFront front room) ≡ front
-  front-stands front room = take-append-seam front (drop (length front) room)
+  front-stands front room = take-append-seam front _
 
   pub rest-stays : (front room : List A) → drop (length front) (inFront front room) ≡ drop (length front) room
-  rest-stays front room = drop-append-seam front (drop (length front) room)
+  rest-stays front room = drop-append-seam front _
 
   pub room-as-long : (front room : List A) → length front ≤ length room → length (inFront front room) ≡ length room
   room-as-long front room l = omega (arith, length-append front (drop (length front) room), length-drop (length front) room)

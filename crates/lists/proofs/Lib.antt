@@ -1,4 +1,5 @@
--- Laws of tests, of numbers and of lists.
+-- Rows of bytes; laws of tests, of numbers and of lists.
+pub mod Bytes
 pub mod Cases
 pub mod Each
 pub mod InFront

@@ -24,7 +24,7 @@ use Rattle.typed.specs.declared.Reading.{Reading}
 use Rattle.typed.specs.declared.Reading.the-variants.{Words}
 use Rattle.typed.specs.declared.Reading.the-variants.{Refused as Refusal}
 use Rattle.typed.proofs.Only.{numbers-injective}
-use Rattle.sheet.proofs.Decoding.{fault-kind}
+use Rattle.sheet.proofs.Faults.{fault-kind}
 use Rattle.search.specs.Contract.{numbersOf, Finds}
 use Rattle.search.proofs.Finds.{Matches, match}
 use Rattle.search.specs.declared.Answer.{Answer}

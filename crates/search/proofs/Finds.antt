@@ -5,23 +5,21 @@
 -- Assumes nothing.
 use mathlib.Core.Path.{_≡_, refl, sym, _∙_, ap, subst}
 use mathlib.Core.List.{List}
-use Prim.Native.Nat.{ℕ, _≤_}
+use Prim.Native.Nat.{ℕ}
 use native.Mathlib.Omega.{arith}
 use lib.ListN.{length, take}
 use lib.IntN.{ℤ}
 use Rattle.lists.proofs.InFront.{front-stands}
 use Rattle.hall.specs.Hall.{Hall}
 use Rattle.hall.specs.Ranges.{words, SheetOf}
-use Rattle.hall.specs.Reading.{Fault, tooShort, badCount, badCost, badEntry, extraWords, smallRoom, tooLong, faultCode}
+use Rattle.hall.specs.Reading.{faultCode}
 use Rattle.hall.specs.Answer as hall
 use Rattle.hall.specs.Answer.{answer, numbers, roomAfter}
 use Rattle.hall.specs.Demands.{Answered}
-use Rattle.hall.proofs.Answers.{answered}
+use Rattle.hall.proofs.Answers.{answered, code-large}
 use Rattle.sheet.specs.Check.{kindOf}
 use Rattle.sheet.specs.Contract.{faultOf, refusalCode}
-use Rattle.sheet.specs.declared.Refusal.{Refusal}
-use Rattle.sheet.specs.declared.Refusal.the-variants.{TooShort, BadCount, BadCost, BadEntry, ExtraWords, SmallRoom, TooLong}
-use Rattle.sheet.proofs.Decoding.{fault-kind}
+use Rattle.sheet.proofs.Faults.{fault-kind}
 use Rattle.sheet.proofs.Only.{code-injective}
 use Rattle.search.specs.declared.Answer.{Answer}
 use Rattle.search.specs.declared.Answer.the-variants.{Least, None, Spent, Refused}
@@ -33,24 +31,6 @@ Matches r (hall.least cost held opened p) = r ≡ Least cost held opened
 Matches r (hall.none opened) = r ≡ None opened
 Matches r (hall.spent opened) = r ≡ Spent opened
 Matches r (hall.refused f place) = r ≡ Refused (kindOf f) place
-
-code-large : (f : Fault) → 11 ≤ faultCode f
-code-large tooShort = omega arith
-code-large badCount = omega arith
-code-large badCost = omega arith
-code-large badEntry = omega arith
-code-large extraWords = omega arith
-code-large smallRoom = omega arith
-code-large tooLong = omega arith
-
-pub kind-fault : (k : Refusal) → kindOf (faultOf k) ≡ k
-kind-fault TooShort = refl
-kind-fault BadCount = refl
-kind-fault BadCost = refl
-kind-fault BadEntry = refl
-kind-fault ExtraWords = refl
-kind-fault SmallRoom = refl
-kind-fault TooLong = refl
 
 pub match : (r : Answer) (a : hall.Answer) → numbersOf r ≡ numbers a → Matches r a
 match (Least c k o) (hall.least c′ k′ o′ p) e = let x : c ≡ c′ = cc in let y : k ≡ k′ = cc in let z : o ≡ o′ = cc in rw (x, y, z)

@@ -25,10 +25,11 @@ use Rattle.hall.proofs.Exactly as exactly
 use Rattle.sheet.specs.Check.{kindOf}
 use Rattle.sheet.specs.Contract.{faultOf}
 use Rattle.sheet.specs.declared.Refusal.{Refusal}
+use Rattle.sheet.proofs.Faults.{kind-fault}
 use Rattle.search.specs.declared.Answer.{Answer}
 use Rattle.search.specs.declared.Answer.the-variants.{Least, None, Spent, Refused}
 use Rattle.search.specs.Contract.{numbersOf, answerOf, devicesOn, Finds}
-use Rattle.search.proofs.Finds.{Matches, match, kind-fault}
+use Rattle.search.proofs.Finds.{Matches, match}
 
 pub numbers-injective : (r s : Answer) → numbersOf r ≡ numbersOf s → r ≡ s
 numbers-injective r (Least cost held opened) e = match r (hall.least cost held opened []) e

@@ -14,30 +14,22 @@ use Rattle.hall.specs.Hall.{Hall}
 use Rattle.lists.specs.Lists.{Each}
 use Rattle.hall.specs.Ranges.{RuleInRange, wordsOf, numberWords, ruleWords, words, SheetOf}
 use Rattle.hall.specs.Bound.{entries}
-use Rattle.hall.specs.Reading.{Fault, tooShort, badCount, badCost, badEntry, extraWords, smallRoom, tooLong, Read, bad, got, decode}
+use Rattle.hall.specs.Reading.{Read, bad, got, decode}
 use Rattle.hall.proofs.Reading.{past}
 use Rattle.hall.proofs.Reasons.{decoded}
 use Rattle.lists.proofs.InFront.{sets-in-front}
 use Rattle.sheet.specs.Coded.{entryCodes, startsFrom}
 use Rattle.sheet.specs.Word.{numbersFrom}
-use Rattle.sheet.specs.Check.{kindOf, sheetOf}
+use Rattle.sheet.specs.Check.{sheetOf}
 use Rattle.sheet.specs.Placed.{codesIn, startsIn, RulesStand, RulesRoom, RulesPut}
-use Rattle.sheet.specs.Contract.{faultOf, numbersOf, numbersRead, Holds, ArraysAfter, Decodes}
+use Rattle.sheet.specs.Contract.{numbersOf, numbersRead, Holds, ArraysAfter, Decodes}
 use Rattle.sheet.specs.declared.Refusal.{Refusal}
 use Rattle.sheet.specs.declared.Sheet.{Sheet}
 use Rattle.sheet.specs.declared.Sheet.the-variants as sheet
+use Rattle.sheet.proofs.Faults.{fault-kind}
 use Rattle.sheet.proofs.Standing.{costs-stand, codes-stand, starts-stand, codes-length, starts-length, few-entries}
 
 -- ── the numbers of an answer ──
-pub fault-kind : (f : Fault) → faultOf (kindOf f) ≡ f
-fault-kind tooShort = refl
-fault-kind badCount = refl
-fault-kind badCost = refl
-fault-kind badEntry = refl
-fault-kind extraWords = refl
-fault-kind smallRoom = refl
-fault-kind tooLong = refl
-
 numbers-same : (x : Read Hall) → numbersOf (sheetOf x) ≡ numbersRead x
 numbers-same (bad f i) = rw (fault-kind f)
 numbers-same (got h j) = refl

@@ -7,6 +7,7 @@ pub mod Whole
 pub mod Placing
 pub mod Standing
 pub mod Putting
+pub mod Faults
 pub mod Decoding
 pub mod Coded
 pub mod Only
