@@ -14,7 +14,7 @@ use Rattle.hall.specs.Walk.{Best, noneYet, soFar, walkHall}
 use Rattle.hall.specs.Ranges.{SheetOf}
 use Rattle.hall.specs.Reading.{Fault, tooShort, badCount, badCost, badEntry, extraWords, smallRoom, tooLong, faultCode, Read, bad, got, decode}
 use Rattle.hall.specs.Answer.{Answer, least, none, spent, refused, finished, within, answerRead, answer, roomAfter}
-use Rattle.hall.specs.Demands.{Counted, Answered}
+use Rattle.hall.specs.Demands.{WalkCount, Answered}
 use Rattle.hall.proofs.Bound.{opens-most}
 use Rattle.hall.proofs.Equality.{opens-bounded}
 use Rattle.hall.proofs.Least.{best-least, least-best, none-best, best-none}
@@ -24,15 +24,15 @@ use Rattle.hall.proofs.Budget.{Ending, stops, ends, ending, over, enoug
 
 module _ (ws : List ℤ) (budget room : ℕ) where
   -- ── the answer has it ──
-  counted : (h : Hall) → SheetOf h ws room → walkHall h .opened ≤ budget → Counted h budget (walkHall h .opened)
-  counted h s l = record { walks = refl; bounded = opens-bounded h (s .ranges); allowed = l }
+  walk-count : (h : Hall) → SheetOf h ws room → walkHall h .opened ≤ budget → WalkCount h budget (walkHall h .opened)
+  walk-count h s l = record { walks = refl; bounded = opens-bounded h (s .ranges); allowed = l }
 
   finished-answered : (h : Hall) → SheetOf h ws room → walkHall h .opened ≤ budget → (b : Best) → walkHall h .best ≡ b → Answered ws budget room (finished h (walkHall h .opened) b)
-  finished-answered h s l noneYet e = record { hall = h; sheet = s; plan = none-best h e; count = counted h s l }
+  finished-answered h s l noneYet e = record { hall = h; sheet = s; plan = none-best h e; count = walk-count h s l }
   finished-answered h s l (soFar p) e =
       let k = best-least h p e in
       let plan = k .sheet .plan in
-      record { hall = h; sheet = s; plan = k; total = cost-sum p plan; number = held-sum p plan; count = counted h s l }
+      record { hall = h; sheet = s; plan = k; total = cost-sum p plan; number = held-sum p plan; count = walk-count h s l }
 
   walk-answered : (h : Hall) → SheetOf h ws room → Ending h budget (walkHall h) → Answered ws budget room (within h budget (walkHall h))
   walk-answered h s (stops l e) = subst (Answered ws budget room) (sym e) (record { hall = h; sheet = s; count = refl; over = l; below = omega (arith, opens-most h) })

@@ -98,6 +98,7 @@ unfolding isFree holds
 free-unheld p (at1 v) h = rw (free-zero p v (eqb-true _ _ h))
 free-unheld p (at0 v) h = rw (free-zero p v (eqb-true _ _ h))
 
+-- (that the devices are different matters where a rule that names both positions of one is met, as request 3 of document 02 asks)
 pub free-unmet : (p : Plan) (r : Rule) → once r ≡ true → AllFree p r → meetsRule p r ≡ false
 free-unmet p r o f = unheld-unmet p r (each-map (λ e. isFree p e ≡ true) (λ e. holds p e ≡ false) (free-unheld p) r f)
 

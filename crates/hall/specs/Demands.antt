@@ -18,7 +18,7 @@ use Rattle.hall.specs.Due.{Reason}
 use Rattle.hall.specs.Answer.{Answer, least, none, spent, refused}
 
 -- demand 3, of a walk that was finished: "the number in document 01's walk", its bound, and that the budget allows it
-pub record Counted (h : Hall) (budget opened : ℕ) : Type 0 where
+pub record WalkCount (h : Hall) (budget opened : ℕ) : Type 0 where
   pub walks : opened ≡ walkHall h .opened
   pub bounded : Bounded h opened
   pub allowed : opened ≤ budget
@@ -30,14 +30,14 @@ pub record SaysLeast (ws : List ℤ) (budget room cost held opened : ℕ) (p : P
   pub plan : LeastPlan hall p
   pub total : cost ≡ sumOf (hall .costs) (heldEntries p)
   pub number : held ≡ length (heldEntries p)
-  pub count : Counted hall budget opened
+  pub count : WalkCount hall budget opened
 
 -- code 1: no plan meets every rule
 pub record SaysNone (ws : List ℤ) (budget room opened : ℕ) : Type 0 where
   pub hall : Hall
   pub sheet : SheetOf hall ws room
   pub plan : NoPlan hall
-  pub count : Counted hall budget opened
+  pub count : WalkCount hall budget opened
 
 -- code 2: the walk needs more nodes than the budget; "nodes opened, equal to the budget", and so below the bound
 pub record SaysSpent (ws : List ℤ) (budget room opened : ℕ) : Type 0 where

@@ -182,13 +182,13 @@ module _ {costs codes starts : List ℕ} {m : ℕ} {child : Walker} {at₀ left�
   pub back-as-was : back ≡ p
   back-as-was = y .releases ∙ rw (y .walked .same, y .holds) (release-hold p (entryOf code) (y .free))
 
-  abbrev walk : Walked
-  walk = child held (bestOf (s .best) bestPlan)
+  abbrev childWalk : Walked
+  childWalk = child held (bestOf (s .best) bestPlan)
 
   abbrev tail : Walked
-  tail = through child p₀ (entriesOf codes (at + 1) (left - 1)) (walk .best)
+  tail = through child p₀ (entriesOf codes (at + 1) (left - 1)) (childWalk .best)
 
-  parts : all x ≡ after (x .part) (after walk tail)
+  parts : all x ≡ after (x .part) (after childWalk tail)
   parts =
       x .rest
       ∙ ap (after (x .part))
@@ -197,20 +197,20 @@ module _ {costs codes starts : List ℕ} {m : ℕ} {child : Walker} {at₀ left�
   pub tried-spent : (end : Meter) → went ≡ Spent end → Walks costs (s₀ .meter) (all x) p₀ back (Spent end) bestPlan′
   unfolding after
   tried-spent end f =
-      let o : IsSpent (s₀ .meter) (after (x .part) walk) end = ends-then (x .went) walk (Spent end) bestPlan′ (rw f at (y .walked .ends)) in
+      let o : IsSpent (s₀ .meter) (after (x .part) childWalk) end = ends-then (x .went) childWalk (Spent end) bestPlan′ (rw f at (y .walked .ends)) in
       let u = o .over in
       rw parts (record { same = back-as-was ∙ x .as-was; ends = record { over = omega arith; count = o .count } })
 
   pub tried-on : (next : State) → went ≡ On next → length bestPlan′ ≡ length bestPlan → Partway costs codes starts m child at₀ left₀ p₀ bestPlan₀ s₀ cost number (at + 1) (left - 1) back bestPlan′ next
   unfolding after
   tried-on next f l =
-      let on : WentOn costs (s .meter) walk next bestPlan′ = rw f at (y .walked .ends) in
+      let on : WentOn costs (s .meter) childWalk next bestPlan′ = rw f at (y .walked .ends) in
       record {
         as-was = back-as-was ∙ x .as-was;
         same-long = l ∙ x .same-long;
         here = record { node = next-node (x .here .node) back-as-was l on; entries = rw back-as-was (next-entries (x .here .entries) more) };
-        part = after (x .part) walk;
-        went = ends-then (x .went) walk (On next) bestPlan′ on;
+        part = after (x .part) childWalk;
+        went = ends-then (x .went) childWalk (On next) bestPlan′ on;
         rest = parts ∙ same-walked (omega arith);
       }
 

@@ -5,10 +5,10 @@ use mathlib.Core.Path.{_≡_, refl}
 use mathlib.Core.List.{map}
 use Rattle.typed.specs.Text.{front, tokensFrom, decimal, numberOf, readTokens, readText}
 use Rattle.typed.specs.Printing.{digitsBy, printed}
-use Rattle.typed.specs.Table.{Row, effect, accepted, wrongBytes, badNumbers, rooms, samples, printings}
+use Rattle.typed.specs.Table.{Row, effect, acceptedTexts, wrongBytes, badNumbers, rooms, samples, printings}
 
-pub accepted-right : map effect accepted ≡ map (λ (r : Row). r .expected) accepted
-unfolding accepted effect readText readTokens numberOf decimal tokensFrom front
+pub accepted-right : map effect acceptedTexts ≡ map (λ (r : Row). r .expected) acceptedTexts
+unfolding acceptedTexts effect readText readTokens numberOf decimal tokensFrom front
 accepted-right = refl
 
 pub wrong-bytes-right : map effect wrongBytes ≡ map (λ (r : Row). r .expected) wrongBytes

@@ -1,6 +1,6 @@
 -- The answer of `read`: what the two passes come to.
 --
--- In order: an answer that is the reader's meets the contract (`reads`); a text that is too long (`too-long`); where the scan told so many
+-- In order: an answer that is the reader's meets the contract (`reads-so`); a text that is too long (`too-long`); where the scan told so many
 -- words, they were read (`scanned-words`); what the fill leaves (`answers`), and a refusal (`scanned-refused`). Assumes nothing.
 use mathlib.Core.Path.{_≡_, refl, sym, _∙_, ap, subst}
 use mathlib.Core.List.{List}
@@ -17,7 +17,7 @@ use Rattle.typed.specs.declared.Mistake.{Mistake}
 use Rattle.typed.specs.declared.Mistake.the-variants.{TooLong}
 use Rattle.typed.specs.declared.Reading.{Reading}
 use Rattle.typed.specs.declared.Reading.the-variants.{Words, Refused}
-use Rattle.typed.proofs.Limits.{within, beyond}
+use Rattle.typed.proofs.Limits.{short-enough, over-long}
 use Rattle.typed.proofs.Verdicts.{Verdict, verdict}
 
 -- ── the reader's answer ──
@@ -25,16 +25,16 @@ justified : (text : List ℕ) (before after : List ℤ) (x : Read (List ℤ)) �
 justified text before after (refused m place) v room = v
 justified text before after (got words) v room = subst (Accepted text (length before)) (sym (ap (take (length words)) room ∙ front-stands words before)) v
 
-reads : {text : List ℕ} {before after : List ℤ} {r : Reading} → r ≡ readingOf (readText text (length before)) → after ≡ roomAfter (readText text (length before)) before
+reads-so : {text : List ℕ} {before after : List ℤ} {r : Reading} → r ≡ readingOf (readText text (length before)) → after ≡ roomAfter (readText text (length before)) before
     → Reads text before r after
-reads {text} {before} {after} e room = record {
+reads-so {text} {before} {after} e room = record {
   says = ap numbersOf e;
   room = room;
   reason = subst (λ (r : Reading). Justified text (length before) r after) (sym e) (justified text before after (readText text (length before)) (verdict text (length before)) room);
 }
 
 pub too-long : {text : List ℕ} {before : List ℤ} → 60000 < length text → Reads text before (Refused TooLong 60000) before
-too-long {text} {before} h = let e = beyond text (length before) h in reads (ap readingOf e) (ap (λ (x : Read (List ℤ)). roomAfter x before) e)
+too-long {text} {before} h = let e = over-long text (length before) h in reads-so (ap readingOf e) (ap (λ (x : Read (List ℤ)). roomAfter x before) e)
 
 -- ── the two passes ──
 -- where the answer is a number of words, they were read; where it is a refusal, the room is as it was
@@ -53,8 +53,8 @@ module _ {text : List ℕ} (h : length text ≤ 60000) where
   pub answers : {before after : List ℤ} {r s : Reading} → r ≡ readingOf (readTokens (length before) (tokens text)) → r ≡ s
       → after ≡ roomAfter (readTokens (length before) (tokens text)) before → Reads text before s after
   answers {before} q e room =
-      let i = within text (length before) h in
-      reads (sym e ∙ q ∙ ap readingOf i) (room ∙ ap (λ (x : Read (List ℤ)). roomAfter x before) i)
+      let i = short-enough text (length before) h in
+      reads-so (sym e ∙ q ∙ ap readingOf i) (room ∙ ap (λ (x : Read (List ℤ)). roomAfter x before) i)
 
   pub scanned-refused : {before : List ℤ} {r : Reading} {m : Mistake} {place : ℕ}
       → r ≡ readingOf (readTokens (length before) (tokens text)) → r ≡ Refused m place

@@ -1,6 +1,6 @@
 -- The first pass over a text: what is left of it, with the words counted, answers what the whole answers.
 --
--- In order: the answer with some words counted (`counted`); what the loop knows (`Counting`), at its start (`counting-start`), at
+-- In order: the answer with some words counted (`countedOn`); what the loop knows (`Counting`), at its start (`counting-start`), at
 -- each of its ends (`counting-end`, `counting-bad`, `counting-full`) and with one word more (`counting-more`). Assumes nothing.
 use mathlib.Core.Path.{_≡_, refl, sym, _∙_, ap, subst}
 use mathlib.Core.List.{List, _∷_}
@@ -20,22 +20,22 @@ use Rattle.typed.specs.declared.words.Next.the-variants.{End, Found, Bad
 use Rattle.typed.proofs.Taking.{none-left, got-one, no-room, one-bad}
 
 -- the answer to what is left, where so many words were counted before it
-abbrev counted : ℕ → Read (List ℤ) → Reading
-counted n (refused m place) = Refused m place
-counted n (got words) = Words (n + length words)
+abbrev countedOn : ℕ → Read (List ℤ) → Reading
+countedOn n (refused m place) = Refused m place
+countedOn n (got words) = Words (n + length words)
 
-counted-one : (n : ℕ) (z : ℤ) (r : Read (List ℤ)) → counted n (then r λ zs. got (z ∷ zs)) ≡ counted (n + 1) r
+counted-one : (n : ℕ) (z : ℤ) (r : Read (List ℤ)) → countedOn n (then r λ zs. got (z ∷ zs)) ≡ countedOn (n + 1) r
 counted-one n z (refused m place) = refl
 counted-one n z (got words) = ap Words (omega arith)
 
-counted-none : (r : Read (List ℤ)) → counted 0 r ≡ readingOf r
+counted-none : (r : Read (List ℤ)) → countedOn 0 r ≡ readingOf r
 counted-none (refused m place) = refl
 counted-none (got words) = ap Words (omega arith)
 
 pub record Counting (text : List ℕ) (room i n : ℕ) : Type 0 where
   pub inside : i ≤ length text
   pub holds : n ≤ room
-  pub answer : counted n (readTokens (room - n) (tokensAt text i)) ≡ readingOf (readTokens room (tokens text))
+  pub answer : countedOn n (readTokens (room - n) (tokensAt text i)) ≡ readingOf (readTokens room (tokens text))
 
 pub counting-start : (text : List ℕ) (room : ℕ) → Counting text room 0 0
 counting-start text room = record {
@@ -45,8 +45,8 @@ counting-start text room = record {
 }
 
 module _ {text : List ℕ} {room i n : ℕ} (c : Counting text room i n) where
-  ends-by : {x : Read (List ℤ)} → readTokens (room - n) (tokensAt text i) ≡ x → counted n x ≡ readingOf (readTokens room (tokens text))
-  ends-by e = sym (ap (counted n) e) ∙ c .answer
+  ends-by : {x : Read (List ℤ)} → readTokens (room - n) (tokensAt text i) ≡ x → countedOn n x ≡ readingOf (readTokens room (tokens text))
+  ends-by e = sym (ap (countedOn n) e) ∙ c .answer
 
 module _ {text : List ℕ} {room i n : ℕ} (c : Counting text room i n) {r : Next} (h : NextIs text i r) where
   pub counting-end : r ≡ End → Words n ≡ readingOf (readTokens room (tokens text))
@@ -79,7 +79,7 @@ module _ {text : List ℕ} {room i n : ℕ} (c : Counting text room i n) {r : Ne
           inside = f .inside;
           holds = omega arith;
           answer =
-              ap (λ (k : ℕ). counted (n + 1) (readTokens k (tokensAt text end))) k
+              ap (λ (k : ℕ). countedOn (n + 1) (readTokens k (tokensAt text end))) k
               ∙ sym (counted-one n z (readTokens (room - n - 1) (tokensAt text end)))
               ∙ ends-by c (ap (readTokens (room - n)) (f .first) ∙ got-one (f .token) (tokensAt text end) z (f .says) (room - n) (omega arith));
         }

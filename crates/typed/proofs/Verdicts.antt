@@ -19,7 +19,7 @@ use Rattle.typed.specs.Reasons.{TokenEnds, TokenAt, Reason}
 use Rattle.typed.specs.declared.Mistake.{Mistake}
 use Rattle.typed.specs.declared.Mistake.the-variants.{WrongByte, BadNumber, TooLong, NoRoom}
 use Rattle.typed.proofs.Taking.{none-left, got-one, no-room, one-bad}
-use Rattle.typed.proofs.Limits.{within, beyond}
+use Rattle.typed.proofs.Limits.{short-enough, over-long}
 use Rattle.typed.proofs.Runs.{run-token, token-run}
 use Rattle.typed.proofs.Sayings.{Says, token-says, says-only}
 use Rattle.typed.proofs.Reaching.{allowed-bytes, allowed-some, behind, word-behind, skip-one, reached-reads, reached-separator, reached-word}
@@ -152,11 +152,11 @@ module _ (text : List ℕ) (room : ℕ) where
       start = record { before = []; closed = nothing; whole = refl; size = refl }
 
       go : (t : Bool) → ltb 60000 (length text) ≡ t → Verdict text room (readText text room)
-      go true u = let l = ltb-true 60000 (length text) u in subst (Verdict text room) (beyond text room l) (record { long = l; place = refl })
+      go true u = let l = ltb-true 60000 (length text) u in subst (Verdict text room) (over-long text room l) (record { long = l; place = refl })
       go false u =
           let l = ltb-false 60000 (length text) u in
           subst (Verdict text room)
-          (sym (reached-reads start room (omega arith)) ∙ within text room l)
+          (sym (reached-reads start room (omega arith)) ∙ short-enough text room l)
           (from-place text room l (suc (length text)) text [] 0 (omega arith) start (omega arith))
 
   -- the first token that is no word, or has no room, decides
@@ -164,7 +164,7 @@ module _ (text : List ℕ) (room : ℕ) where
       → {m : Mistake} {i : ℕ}
       → ((ts : List Token) → readTokens (room - length words) (placed place token ∷ ts) ≡ refused m i) → readText text room ≡ refused m i
   decides {words} {place} {token} short fits here says =
-      sym (within text room short)
+      sym (short-enough text room short)
       ∙ reached-reads (here .reached) room fits
       ∙ ap (λ (ts : List Token). behind words (readTokens (room - length words) ts))
       (run-token place token (here .after) (here .some) (here .bytes) (here .ends))
@@ -172,7 +172,7 @@ module _ (text : List ℕ) (room : ℕ) where
 
   spells-words : {words : List ℤ} → length text ≤ 60000 → length words ≤ room → Spells text words → readText text room ≡ got words
   spells-words {words} short fits (ended c) =
-      sym (within text room short)
+      sym (short-enough text room short)
       ∙ reached-reads (record { before = text; closed = c; whole = sym (append-nil text); size = refl }) room fits
       ∙ ap (behind words) (no-tokens (room - length words) (length text))
       ∙ ap got (append-nil words)
@@ -180,7 +180,7 @@ module _ (text : List ℕ) (room : ℕ) where
       let n : length words ≡ length others + 1 = ap length e ∙ length-append others (z ∷ []) in
       let t : Token = placed place token in
       let ts = tokensFrom true (place + length token) [] in
-      sym (within text room short)
+      sym (short-enough text room short)
       ∙ reached-reads r room (omega arith)
       ∙ ap (λ (l : List ℕ). behind others (readTokens (room - length others) (tokensFrom true place l))) (sym (append-nil token))
       ∙ ap (λ (ts : List Token). behind others (readTokens (room - length others) ts)) (run-token place token [] (allowed-some a) (allowed-bytes a) tt)
@@ -198,7 +198,7 @@ module _ (text : List ℕ) (room : ℕ) where
       decides (v .short) (v .fits) (v .here) λ ts.
       one-bad (room - length (v .words)) (placed i (v .token)) ts BadNumber i
       (says-only i (v .token) (refused BadNumber i) (v .bad, refl))
-  verdict-only (refused TooLong i) v = sym (beyond text room (v .long)) ∙ ap (refused TooLong) (sym (v .place))
+  verdict-only (refused TooLong i) v = sym (over-long text room (v .long)) ∙ ap (refused TooLong) (sym (v .place))
   verdict-only (refused NoRoom i) v =
       let k : room - length (v .words) ≡ 0 = omega (arith, v .full) in
       decides (v .short) (omega (arith, v .full)) (v .here) λ ts.

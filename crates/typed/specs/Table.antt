@@ -35,8 +35,8 @@ abbrev pub row : String → ℕ → List ℕ → List ℤ → Row
 row text room told after = record { text = bytes text; before = replicate room (+ 99); expected = record { told = told; room = after } }
 
 -- accepted: 0 and w, and the tokens' values in front of the room
-unfoldable pub accepted : List Row
-accepted =
+unfoldable pub acceptedTexts : List Row
+acceptedTexts =
     -- 01's four-device text
     row "4 5 2 4 3\n3\n2 1 2\n2 -2 3\n2 -1 4\n" 16 (0 ∷ 15 ∷ [])
     (+ 4 ∷ + 5 ∷ + 2 ∷ + 4 ∷ + 3 ∷ + 3 ∷ + 2 ∷ + 1 ∷ + 2 ∷ + 2 ∷ - 2 ∷ + 3 ∷ + 2 ∷ - 1 ∷ + 4 ∷ + 99 ∷ [])
