@@ -29,12 +29,14 @@ enum {
     LEASTPLAN_NONE = 1,
     LEASTPLAN_SPENT = 2,
     LEASTPLAN_TOO_SHORT = 11,
-    LEASTPLAN_BAD_COUNT = 12,
+    LEASTPLAN_BAD_DEVICE_COUNT = 12,
     LEASTPLAN_BAD_COST = 13,
     LEASTPLAN_BAD_ENTRY = 14,
     LEASTPLAN_EXTRA_WORDS = 15,
     LEASTPLAN_SMALL_ROOM = 16,
-    LEASTPLAN_TOO_LONG = 17
+    LEASTPLAN_TOO_LONG = 17,
+    LEASTPLAN_BAD_RULE_COUNT = 18,
+    LEASTPLAN_BAD_WIDTH = 19
 };
 
 /*
@@ -47,17 +49,19 @@ enum {
  *    1          no plan meets every rule                    nodes opened        unchanged     unchanged
  *    2          the budget is spent                         the budget          unchanged     unchanged
  *   11          the sheet ends too soon                     words_len           unchanged     unchanged
- *   12          a device count, a rule count or a width     place of that word  unchanged     unchanged
- *               is outside its range
+ *   12          the device count is outside its range       place of that word  unchanged     unchanged
  *   13          a cost is outside its range                 place of that word  unchanged     unchanged
  *   14          an entry is 0 or beyond the device count    place of that word  unchanged     unchanged
  *   15          words stand after the last rule             place of the first  unchanged     unchanged
  *   16          the room has fewer bytes than there are     the device count    unchanged     unchanged
  *               devices
  *   17          there are more than 16,384 words            16384               unchanged     unchanged
+ *   18          the rule count is outside its range         place of that word  unchanged     unchanged
+ *   19          the width of a rule is outside its range    place of that word  its rule      unchanged
  *
- * Places are word numbers from 0. With code 0 the first bytes of room are the plan, one for each device, 0 free, 1 held at
- * position 1, 2 held at position 0, and the rest of room is unchanged. With any other code all of room is unchanged.
+ * Places are word numbers from 0, rules are numbered from 1. With code 0 the first bytes of room are the plan, one for each device,
+ * 0 free, 1 held at position 1, 2 held at position 0, and the rest of room is unchanged. With any other code all of room is
+ * unchanged.
  */
 void leastplan_search(const int32_t *words, size_t words_len, uint32_t budget, uint8_t *room, size_t room_len, uint64_t numbers[4]);
 
@@ -65,8 +69,8 @@ void leastplan_search(const int32_t *words, size_t words_len, uint32_t budget, u
  * Answers a sheet typed as text, text[0] to text[text_len - 1], as the program leastplan does: under a budget of 1,000,000 trial
  * plans. The bytes that the program prints go to the front of out, with no byte 0 behind them, and how many they are is returned;
  * they always fit, and the rest of out is unchanged. They are the line "least COST HELD OPENED" with the line "hold" and the held
- * devices, or one line "none OPENED", "spent 1000000" or "refused CODE PLACE", each closed by byte 10. CODE is one of the codes
- * 11 to 15 above with its place in words, or
+ * devices, or one line "none OPENED", "spent 1000000" or "refused CODE PLACE", each closed by byte 10; with 19 the rule stands
+ * behind its place, "refused 19 PLACE RULE". CODE is one of the codes 11 to 15, 18 and 19 above with its place in words, or
  *
  *   21          a wrong byte in a token, or a minus with    that byte, or where the digit should stand
  *               no digit after it

@@ -1,5 +1,5 @@
 #!/usr/bin/env python3
-"""What the program `damaged` must print, worked out from document 01 alone.
+"""What the program `damaged` must print, worked out from documents 01 and 02 (request 1) alone.
 
     tests/damaged.py > crates/damaged/stdout
 
@@ -15,7 +15,7 @@ class Refused(Exception):
 
 
 def read_sheet(words, room):
-    """The numbers of devices and rules, or Refused(code, place)."""
+    """The numbers of devices and rules, or Refused(code, place), of a width Refused(19, place, rule)."""
     if len(words) > 16384:
         raise Refused(17, 16384)
     place = 0
@@ -27,18 +27,18 @@ def read_sheet(words, room):
         place += 1
         return words[place - 1]
 
-    def number(code, most):
+    def number(code, most, *rule):
         w = word()
         if not 0 <= w <= most:
-            raise Refused(code, place - 1)
+            raise Refused(code, place - 1, *rule)
         return w
 
     n = number(12, 200)
     for _ in range(n):
         number(13, 1_000_000_000)
-    m = number(12, 2000)
-    for _ in range(m):
-        for _ in range(number(12, 32)):
+    m = number(18, 2000)
+    for rule in range(1, m + 1):
+        for _ in range(number(19, 32, rule)):
             if not 1 <= abs(word()) <= n:
                 raise Refused(14, place - 1)
     if place < len(words):
@@ -52,7 +52,7 @@ def sheet(words, room=200):
     try:
         print("hall %d %d" % read_sheet(words, room))
     except Refused as refused:
-        print("refused %d %d" % refused.args)
+        print("refused", *refused.args)
 
 
 for k in range(len(FOUR) + 1):

@@ -1,5 +1,5 @@
 #!/usr/bin/env python3
-"""What the program `rows` must print: the answers of document 01's table, and of our own rows for the ways astray.
+"""What the program `rows` must print: the answers of document 01's table, with request 1 of document 02, and of our own rows.
 
     tests/rows.py > crates/rows/stdout
 
@@ -27,7 +27,7 @@ ROWS = [
     ("1 1000000001 0", 8, "refused 13 1", None),
     ("1 5 1 1", 8, "refused 11 4", None),
     ("1 5 1 1 2", 8, "refused 14 4", None),
-    ("1 5 1 33", 8, "refused 12 3", None),
+    ("1 5 1 33", 8, "refused 19 3 1", None),
     ("1 5 0 7", 8, "refused 15 3", None),
     ("1 5 0", 0, "refused 16 1", None),
     ("0 0", 8, "spent 0", None),
@@ -44,6 +44,15 @@ ROWS = [
     ("1 5 0 7", 8, "refused 15 3", None),
     ("1 5 0 7", 0, "refused 15 3", None),
     ("0 2000 1 1", 8, "refused 14 3", None),
+    # which count was wrong
+    ("-1", 8, "refused 12 0", None),
+    ("0 2001", 8, "refused 18 1", None),
+    ("1 5 -1", 8, "refused 18 2", None),
+    ("1 5 1 -1", 8, "refused 19 3 1", None),
+    ("1 5 4 0 2 1 -1 33", 8, "refused 19 7 3", None),
+    ("0 2 0 40 7", 8, "refused 19 3 2", None),
+    ("1 5 2 0 1 2", 8, "refused 14 5", None),
+    ("1 5 2 0", 8, "refused 11 4", None),
 ]
 
 for sheet, size, answer, hold in ROWS:

@@ -70,6 +70,7 @@ struct reference_answer compare(const struct sheet *s, uint32_t budget)
 
     tally.searches++;
     tally.by_code[a.number[0]]++;
+    tally.later_rule += a.number[0] == 19 && a.number[2] > 1;
     tally.by_number += a.by_number;
     tally.by_marks += a.by_marks;
     if (memcmp(room, room_expected, sizeof room) == 0 && memcmp(numbers, numbers_expected, sizeof numbers) == 0 &&

@@ -10,7 +10,7 @@ enum { BUDGET = 1000000 }; /* the program's */
 
 struct tally {
     unsigned long passed, failed;
-    unsigned long searches, by_code[18], by_number, by_marks;
+    unsigned long searches, by_code[20], later_rule, by_number, by_marks;
     unsigned long texts, by_printed[25], left_out;
 };
 

@@ -1,5 +1,6 @@
 /*
- * Compares the library with the reference: on document 01's sheets with known answers, and on sheets and texts made from a seed.
+ * Compares the library with the reference: on sheets with known answers, document 01's and our own, and on sheets and texts made from
+ * a seed.
  *
  *   compare [SEED [SHEETS]]
  *
@@ -122,14 +123,14 @@ static void compare_long_walks(void)
 int main(int argc, char **argv)
 {
     static const char *const meaning[25] = {"least", "none", "spent", [11] = "refused 11", "refused 12", "refused 13", "refused 14", "refused 15",
-                                            "refused 16", "refused 17", [21] = "refused 21", "refused 22", "refused 23", "refused 24"};
+                                            "refused 16", "refused 17", "refused 18", "refused 19", [21] = "refused 21", "refused 22", "refused 23", "refused 24"};
     uint64_t seed = argc > 1 ? strtoull(argv[1], NULL, 10) : 1;
     unsigned long sheets = argc > 2 ? strtoul(argv[2], NULL, 10) : 120000;
 
     draw_from(seed);
     make_memory();
     known_sheets();
-    tally.searches = tally.by_number = tally.by_marks = 0;
+    tally.searches = tally.later_rule = tally.by_number = tally.by_marks = 0;
     memset(tally.by_code, 0, sizeof tally.by_code);
     compare_all(sheets);
     compare_long_walks();
@@ -137,9 +138,10 @@ int main(int argc, char **argv)
     printf("seed %llu, %lu sheets, %lu searches\n", (unsigned long long)seed, sheets, tally.searches);
     demand("sheets", sheets, 100000);
     demand("of them accepted", accepted, (sheets + 2) / 3);
-    for (int code = 0; code < 18; code++)
+    for (int code = 0; code < 20; code++)
         if (meaning[code])
             demand(meaning[code], tally.by_code[code], LEAST_OF_EACH);
+    demand("refused 19 of a rule behind the first", tally.later_rule, LEAST_OF_EACH);
     demand("called with exactly the budget needed, and with one less", exact, LEAST_OF_EACH);
     demand("called with budget 0", budget_0, LEAST_OF_EACH);
     demand("accepted with 200 devices", with_200, LEAST_OF_EACH);

@@ -1,4 +1,4 @@
-/* Document 01, "Sheets with known answers". */
+/* Document 01, "Sheets with known answers", with request 1 of document 02. */
 #include "known.h"
 
 #include "calls.h"
@@ -35,10 +35,19 @@ static const struct row rows[] = {
     {1000, 200, 2, {13, 1}, "", 3, {1, G + 1, 0}},
     {1000, 200, 2, {11, 4}, "", 4, {1, 5, 1, 1}},
     {1000, 200, 2, {14, 4}, "", 5, {1, 5, 1, 1, 2}},
-    {1000, 200, 2, {12, 3}, "", 4, {1, 5, 1, 33}},
+    {1000, 200, 3, {19, 3, 1}, "", 4, {1, 5, 1, 33}},
     {1000, 200, 2, {15, 3}, "", 4, {1, 5, 0, 7}},
     {1000, 0, 2, {16, 1}, "", 3, {1, 5, 0}},
     {0, 200, 2, {2, 0}, "", 2, {0, 0}},
+    /* which count was wrong: our own rows */
+    {1000, 200, 2, {12, 0}, "", 1, {-1}},
+    {1000, 200, 2, {18, 1}, "", 2, {0, 2001}},
+    {1000, 200, 2, {18, 2}, "", 3, {1, 5, -1}},
+    {1000, 200, 3, {19, 3, 1}, "", 4, {1, 5, 1, -1}},
+    {1000, 200, 3, {19, 7, 3}, "", 8, {1, 5, 4, 0, 2, 1, -1, 33}},
+    {1000, 200, 3, {19, 3, 2}, "", 5, {0, 2, 0, 40, 7}},
+    {1000, 200, 2, {14, 5}, "", 6, {1, 5, 2, 0, 1, 2}},
+    {1000, 200, 2, {11, 4}, "", 4, {1, 5, 2, 0}},
 };
 
 void known_sheets(void)
@@ -56,7 +65,7 @@ void known_sheets(void)
             tally.passed++;
         else {
             tally.failed++;
-            printf("FAILED: the reference on row %zu of document 01\n", i + 1);
+            printf("FAILED: the reference on known row %zu\n", i + 1);
         }
     }
     printf("%zu sheets with known answers\n", count);

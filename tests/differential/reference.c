@@ -1,6 +1,7 @@
 /*
- * A reference for the search of document 01, written to be held against the document sentence by sentence. Each node of the walk has
- * a plan of its own; cost and held number are summed anew wherever they are asked for. Nothing here is made for speed.
+ * A reference for the search of document 01, with request 1 of document 02, written to be held against the documents sentence by
+ * sentence. Each node of the walk has a plan of its own; cost and held number are summed anew wherever they are asked for. Nothing
+ * here is made for speed.
  */
 #include "reference.h"
 
@@ -15,10 +16,11 @@ struct sheet {
     const int32_t *rule[2000]; /* of each rule: at 0 the width, from 1 on the entries */
 };
 
-/* How far the sheet has been read, and its first fault. */
+/* How far the sheet has been read, the number of the rule at hand, and the first fault. */
 struct reader {
     const int32_t *word;
     size_t words, next;
+    int rule;
     int code;
     size_t place;
 };
@@ -45,7 +47,8 @@ static bool read_word(struct reader *r, int32_t low, int32_t high, int code, int
 static bool read_rule(struct reader *r, int32_t devices)
 {
     int32_t width, entry;
-    if (!read_word(r, 0, 32, 12, &width))
+    r->rule++;
+    if (!read_word(r, 0, 32, 19, &width))
         return false;
     for (int e = 1; e <= width; e++) {
         if (!read_word(r, -devices, devices, 14, &entry))
@@ -68,7 +71,7 @@ static bool read_sheet(struct reader *r, struct sheet *s, size_t room)
     for (int v = 1; v <= s->devices; v++)
         if (!read_word(r, 0, 1000000000, 13, &cost))
             return false;
-    if (!read_word(r, 0, 2000, 12, &s->rules))
+    if (!read_word(r, 0, 2000, 18, &s->rules))
         return false;
     for (int i = 0; i < s->rules; i++) {
         s->rule[i] = r->word + r->next;
@@ -228,6 +231,15 @@ static struct reference_answer short_answer(int code, uint64_t number)
     return (struct reference_answer){.number = {(uint64_t)code, number}, .numbers = 2};
 }
 
+/* Request 1: with 19 the number of its rule comes third. */
+static struct reference_answer refused_answer(const struct reader *r)
+{
+    struct reference_answer a = short_answer(r->code, r->place);
+    if (r->code == 19)
+        a.number[a.numbers++] = (uint64_t)r->rule;
+    return a;
+}
+
 static struct reference_answer least_answer(const struct sheet *s, const struct plan *best, uint32_t opened)
 {
     struct reference_answer a = {.number = {0, cost(s, best), (uint64_t)held(s, best), opened}, .numbers = 4};
@@ -242,7 +254,7 @@ struct reference_answer reference(const int32_t *word, size_t words, uint32_t bu
     struct reader r = {.word = word, .words = words};
     struct sheet s;
     if (!read_sheet(&r, &s, room))
-        return short_answer(r.code, r.place);
+        return refused_answer(&r);
     struct walk w = {.sheet = &s, .budget = budget};
     struct plan first = {{FREE}};
     bool spent = !open_node(&w, &first);

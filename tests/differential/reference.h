@@ -1,4 +1,4 @@
-/* The answers of document 01, by the reference. */
+/* The answers of document 01, with request 1 of document 02, by the reference. */
 #ifndef REFERENCE_H
 #define REFERENCE_H
 
@@ -8,7 +8,7 @@
 /* The answer to a hall sheet. */
 struct reference_answer {
     uint64_t number[4];      /* the code, then what is returned, in the order of the document's table */
-    int numbers;             /* how many of them there are: 4 for code 0, else 2 */
+    int numbers;             /* how many of them there are: 4 for code 0, 3 for 19, else 2 */
     int devices;             /* code 0: the length of the plan; else 0 */
     unsigned char plan[200]; /* code 0: 0 free, 1 held at 1, 2 held at 0 */
     /* of a search: how often two plans of equal cost were told apart by the held number, and by the marks */
@@ -28,8 +28,7 @@ struct reference_reading {
 /* Reads a text of so many bytes into a room for so many words, which a refusal leaves unchanged. */
 struct reference_reading reference_read(const unsigned char *text, size_t length, int32_t *word, size_t room);
 
-/* What leastplan prints for an answer, or for a refusal of either table (its code and place as the answer's two numbers);
-   returns the number of bytes. */
+/* What leastplan prints for an answer, or for a refusal of either table (its numbers as the answer's); returns the number of bytes. */
 size_t reference_print(const struct reference_answer *a, char *to);
 
 #endif

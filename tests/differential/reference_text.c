@@ -95,6 +95,15 @@ static int print_least(const struct reference_answer *a, char *to)
     return bytes + sprintf(to + bytes, "\n");
 }
 
+/* Request 1: the number of a width's rule is printed last. */
+static int print_refused(const struct reference_answer *a, char *to)
+{
+    int bytes = sprintf(to, "refused");
+    for (int i = 0; i < a->numbers; i++)
+        bytes += sprintf(to + bytes, " %" PRIu64, a->number[i]);
+    return bytes + sprintf(to + bytes, "\n");
+}
+
 size_t reference_print(const struct reference_answer *a, char *to)
 {
     if (a->number[0] == 0)
@@ -103,5 +112,5 @@ size_t reference_print(const struct reference_answer *a, char *to)
         return (size_t)sprintf(to, "none %" PRIu64 "\n", a->number[1]);
     if (a->number[0] == 2)
         return (size_t)sprintf(to, "spent %" PRIu64 "\n", a->number[1]);
-    return (size_t)sprintf(to, "refused %" PRIu64 " %" PRIu64 "\n", a->number[0], a->number[1]);
+    return (size_t)print_refused(a, to);
 }

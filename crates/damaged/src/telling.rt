@@ -1,5 +1,6 @@
 // How an answer is printed.
 use libc::STDOUT_FILENO;
+use sheet::Refusal;
 use sheet::Sheet;
 use typed::Reading;
 
@@ -17,7 +18,19 @@ fn word(w: i32) {
     }
 }
 
-// `hall DEVICES RULES`, or `refused CODE PLACE`.
+// The numbers of a refusal: `refused CODE PLACE`, for a width `refused 19 PLACE RULE`.
+fn tell_refusal(kind: Refusal, place: usize) {
+    let mut numbers = [0u64; 4];
+    let count = sheet::numbers_of(kind, place, &mut numbers);
+    io::write_all(STDOUT_FILENO, b"refused");
+    number(numbers[0]);
+    number(numbers[1]);
+    if count == 3 {
+        number(numbers[2]);
+    }
+}
+
+// `hall DEVICES RULES`, or a refusal.
 pub(crate) fn tell_sheet(answer: Sheet) {
     match answer {
         Sheet::Hall(n, m) => {
@@ -26,9 +39,7 @@ pub(crate) fn tell_sheet(answer: Sheet) {
             number(m as u64);
         }
         Sheet::Refused(kind, place) => {
-            io::write_all(STDOUT_FILENO, b"refused");
-            number(sheet::code_of(kind) as u64);
-            number(place as u64);
+            tell_refusal(kind, place);
         }
     }
     io::write_all(STDOUT_FILENO, b"\n");

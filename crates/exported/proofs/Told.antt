@@ -1,9 +1,9 @@
 -- What each arm of `leastplan_search` tells is the paper's numbers of the search's answer, and these are the definition's.
 --
 -- In order: the numbers told so far (`tell-room`, `tell-more`, `tell-end`, `tell-long`); a case of the answer whose numbers are told
--- (`told-case`), and a refusal, whose code another function gives (`told-refused`). Assumes nothing.
+-- (`told-case`), and a refusal, whose numbers the sheet's reader tells (`told-refused`). Assumes nothing.
 use mathlib.Core.Path.{_≡_, sym, _∙_, ap}
-use mathlib.Core.List.{List, [], _∷_}
+use mathlib.Core.List.{List}
 use Prim.Native.Nat.{ℕ, _+_, _≤_, _<_}
 use native.Mathlib.Omega.{arith}
 use lib.ListN.{length, getD, set, take}
@@ -11,7 +11,7 @@ use lib.Seq.{length-take-le, take-all}
 use lib.IntN.{ℤ}
 use Rattle.lists.specs.Lists.{inFront}
 use Rattle.lists.proofs.InFront.{room-as-long, front-grows}
-use Rattle.sheet.specs.Contract.{refusalCode}
+use Rattle.sheet.specs.Contract.{numbersAt, Tells}
 use Rattle.sheet.specs.declared.Refusal.{Refusal}
 use Rattle.search.specs.Contract.{numbersOf, Finds}
 use Rattle.search.specs.declared.Answer.{Answer}
@@ -44,5 +44,5 @@ module _ {ws : List ℤ} {budget : ℕ} {before after numbers numbers′ : List 
     finds = f;
   }
 
-  pub told-refused : {kind : Refusal} {code place : ℕ} → r ≡ Refused kind place → code ≡ refusalCode kind → numbers′ ≡ inFront (code ∷ place ∷ []) numbers → Searches ws budget before numbers after numbers′
-  told-refused {kind} {code} {place} e c t = told-case e (t ∙ ap (λ (n : ℕ). inFront (n ∷ place ∷ []) numbers) c)
+  pub told-refused : {kind : Refusal} {place count : ℕ} → r ≡ Refused kind place → Tells (numbersAt kind place) numbers count numbers′ → Searches ws budget before numbers after numbers′
+  told-refused e t = told-case e (t .room)

@@ -22,8 +22,8 @@ fn tell(told: &[u64], numbers: &mut [u64])
     }
 }
 
-// 01, "The answer sheet of the search": the least plan of a sheet, under a budget of trial plans; its marks go to the front of the
-// room, its numbers to `numbers`.
+// 01, "The answer sheet of the search", with 02, request 1: the least plan of a sheet, under a budget of trial plans; its marks go to
+// the front of the room, its numbers to `numbers`.
 #[no_mangle]
 pub extern "C" fn leastplan_search(
     words: &[i32],
@@ -47,8 +47,7 @@ pub extern "C" fn leastplan_search(
             tell(&told, numbers);
         }
         Answer::Refused(kind, place) => {
-            let told = [sheet::code_of(kind) as u64, place as u64];
-            tell(&told, numbers);
+            sheet::numbers_of(kind, place, numbers);
         }
     }
 }

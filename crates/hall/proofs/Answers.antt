@@ -1,7 +1,6 @@
 -- The three demands together: `answer` has `Answered`, and no other answer has; and the plan room afterwards.
 --
--- The claims: `answered`, `answered-only`; `room-length`; and that a refusal's code is none of 0, 1 and 2 (`code-large`). Assumes
--- nothing.
+-- The claims: `answered`, `answered-only`; `room-length`. Assumes nothing.
 use mathlib.Core.Path.{_≡_, refl, sym, _∙_, ap, subst}
 use mathlib.Core.List.{List}
 use Prim.Native.Nat.{ℕ, _≤_}
@@ -12,7 +11,7 @@ use Rattle.lists.proofs.InFront.{room-as-long}
 use Rattle.hall.specs.Hall.{Hall, Plan}
 use Rattle.hall.specs.Walk.{Best, noneYet, soFar, walkHall}
 use Rattle.hall.specs.Ranges.{SheetOf}
-use Rattle.hall.specs.Reading.{Fault, tooShort, badCount, badCost, badEntry, extraWords, smallRoom, tooLong, faultCode, Read, bad, got, decode}
+use Rattle.hall.specs.Reading.{Read, bad, got, decode}
 use Rattle.hall.specs.Answer.{Answer, least, none, spent, refused, finished, within, answerRead, answer, roomAfter}
 use Rattle.hall.specs.Demands.{WalkCount, Answered}
 use Rattle.hall.proofs.Bound.{opens-most}
@@ -84,13 +83,3 @@ module _ (ws : List ℤ) (budget : ℕ) (room : List ℕ) where
       go (none opened) e = refl
       go (spent opened) e = refl
       go (refused f i) e = refl
-
--- ── the codes ──
-pub code-large : (f : Fault) → 11 ≤ faultCode f
-code-large tooShort = omega arith
-code-large badCount = omega arith
-code-large badCost = omega arith
-code-large badEntry = omega arith
-code-large extraWords = omega arith
-code-large smallRoom = omega arith
-code-large tooLong = omega arith

@@ -3,12 +3,12 @@
 -- In order: a word at a place, and what is due after it; how far a sheet is right (`RightUpTo`) and where it stops (`Stopped`);
 -- from where something is due, each reader, from a word to a hall, either leads to where the next is due or stops (`Tracks`,
 -- `hall-tracks`); no sheet is stopped in two ways (`stopped-only`), or stopped and whole (`whole-not-stopped`). Assumes nothing.
-use mathlib.Core.Path.{_≡_, refl, sym, _∙_, ap}
+use mathlib.Core.Path.{_≡_, refl, sym, _∙_, ap, subst}
 use mathlib.Core.Logic.{_⊎_, inl, inr, _≢_}
 use mathlib.Core.Bool.{Bool, true, false}
 use mathlib.Core.List.{List, [], _∷_}
 use mathlib.Core.Option.{Option, none, some}
-use Prim.Native.Nat.{ℕ, zero, suc, _≤_, _<_, zero-le, suc-le-suc}
+use Prim.Native.Nat.{ℕ, zero, suc, _-_, _≤_, _<_, zero-le, suc-le-suc}
 use native.Mathlib.Omega.{arith}
 use lib.ListN.{length, getD, take, getElem?}
 use lib.Seq.{take-length}
@@ -16,7 +16,7 @@ use lib.IntN.{ℤ, pos, negsuc}
 use lib.Dec.{leb, ltb}
 use borrow.Author.Tests.{le-leb}
 use Rattle.hall.specs.Hall.{Entry}
-use Rattle.hall.specs.Reading.{Fault, tooShort, badCount, Read, bad, got, Reader, then, _>>=_, asRead, atWord, word, onlyIf, upTo, asEntry, times, cost, entry, rule, hall}
+use Rattle.hall.specs.Reading.{Fault, tooShort, badDeviceCount, badRuleCount, badWidth, Read, bad, got, Reader, then, _>>=_, asRead, atWord, word, onlyIf, upTo, asEntry, times, cost, entry, rule, allRules, hall}
 use Rattle.hall.specs.Due.{Due, deviceCount, deviceCost, ruleCount, ruleWidth, ruleEntry, nothingMore, costsDue, rulesDue, entriesDue, next, dueAfter, due, fromZeroTo, inRangeOf, faultFor, rightAt, RightBefore, FirstWrong, EndsTooSoon}
 use Rattle.lists.proofs.Cases.{both, Tri, below, level, above, tri}
 
@@ -83,8 +83,8 @@ abbrev ends : Due → ℕ
 ends deviceCount = 0
 ends (deviceCost n left) = 0
 ends (ruleCount n) = 0
-ends (ruleWidth n left) = 0
-ends (ruleEntry n rules left) = 0
+ends (ruleWidth n rule left) = 0
+ends (ruleEntry n rule rules left) = 0
 ends nothingMore = 1
 
 still-due : (d : Due) → ends d ≡ 0 → d ≢ nothingMore
@@ -117,48 +117,60 @@ number-tracks most d k more r n = word-tracks (upTo most) d k more agrees
         go false u = r (pos v) ∙ u
     agrees (negsuc v) = r (negsuc v)
 
-entry-agrees : (n rules left : ℕ) (w : ℤ) → Agrees (ruleEntry n rules left) (λ (e : Entry). entriesDue n rules left) w (asEntry n w)
-entry-agrees n rules left (pos zero) = refl
-entry-agrees n rules left (pos (suc v)) = go (ltb v n) refl _
+entry-agrees : (n rule rules left : ℕ) (w : ℤ) → Agrees (ruleEntry n rule rules left) (λ (e : Entry). entriesDue n rule rules left) w (asEntry n w)
+entry-agrees n rule rules left (pos zero) = refl
+entry-agrees n rule rules left (pos (suc v)) = go (ltb v n) refl _
   where
-    go : (t : Bool) → ltb v n ≡ t → (e : Entry) → Agrees (ruleEntry n rules left) (λ (e : Entry). entriesDue n rules left) (pos (suc v)) (onlyIf t e)
+    go : (t : Bool) → ltb v n ≡ t → (e : Entry) → Agrees (ruleEntry n rule rules left) (λ (e : Entry). entriesDue n rule rules left) (pos (suc v)) (onlyIf t e)
     go true u e = (rw (le-leb 1 (suc v) (omega arith), u), refl)
     go false u e = rw (le-leb 1 (suc v) (omega arith), u)
-entry-agrees n rules left (negsuc v) = go (ltb v n) refl _
+entry-agrees n rule rules left (negsuc v) = go (ltb v n) refl _
   where
-    go : (t : Bool) → ltb v n ≡ t → (e : Entry) → Agrees (ruleEntry n rules left) (λ (e : Entry). entriesDue n rules left) (negsuc v) (onlyIf t e)
+    go : (t : Bool) → ltb v n ≡ t → (e : Entry) → Agrees (ruleEntry n rule rules left) (λ (e : Entry). entriesDue n rule rules left) (negsuc v) (onlyIf t e)
     go true u e = (rw (le-leb 1 (suc v) (omega arith), u), refl)
     go false u e = rw (le-leb 1 (suc v) (omega arith), u)
 
-entry-tracks : (n rules left : ℕ) → Tracks (entry n) (ruleEntry n rules left) (λ e. entriesDue n rules left)
-entry-tracks n rules left = word-tracks (asEntry n) (ruleEntry n rules left) (λ e. entriesDue n rules left) refl (entry-agrees n rules left)
+entry-tracks : (n rule rules left : ℕ) → Tracks (entry n) (ruleEntry n rule rules left) (λ e. entriesDue n rule rules left)
+entry-tracks n rule rules left = word-tracks (asEntry n) (ruleEntry n rule rules left) (λ e. entriesDue n rule rules left) refl (entry-agrees n rule rules left)
 
 -- so many of something: `state l` is due where l of them are still to come
-times-tracks : {A : Type 0} (r : Reader A) (state : ℕ → Due) → ((l : ℕ) → Tracks r (state (suc l)) (λ a. state l)) → (k : ℕ) → Tracks (times k r) (state k) (λ a. state 0)
+times-tracks : {A : Type 0} (r : ℕ → Reader A) (state : ℕ → Due) (k : ℕ) → ((l : ℕ) → l < k → Tracks (r l) (state (suc l)) (λ a. state l)) → Tracks (times k r) (state k) (λ a. state 0)
 unfolding times
-times-tracks r state t zero = λ ws i at. at
-times-tracks r state t (suc k) =
-    then-tracks r _ (state (suc k)) (λ a. state k) (λ l. state 0) (t k) λ a.
-    then-tracks (times k r) _ (state k) (λ l. state 0) (λ l. state 0) (times-tracks r state t k) λ l ws i at. at
+times-tracks r state zero t = λ ws i at. at
+times-tracks r state (suc k) t =
+    then-tracks (r k) _ (state (suc k)) (λ a. state k) (λ l. state 0) (t k (omega arith)) λ a.
+    then-tracks (times k r) _ (state k) (λ l. state 0) (λ l. state 0) (times-tracks r state k (λ l h. t l (omega arith))) λ l ws i at. at
 
-rule-tracks : (n left : ℕ) → Tracks (rule n) (ruleWidth n left) (λ r. rulesDue n left)
+rule-tracks : (n number left : ℕ) → Tracks (rule n number) (ruleWidth n number left) (λ r. rulesDue n (suc number) left)
 unfolding rule
-rule-tracks n left =
-    then-tracks (word badCount (upTo 32)) _ (ruleWidth n left) (entriesDue n left) (λ r. rulesDue n left)
-    (number-tracks 32 (ruleWidth n left) (entriesDue n left) refl (λ w. refl) (λ v. refl))
-    λ w. times-tracks (entry n) (entriesDue n left) (entry-tracks n left) w
+rule-tracks n number left =
+    then-tracks (word (badWidth number) (upTo 32)) _ (ruleWidth n number left) (entriesDue n number left) (λ r. rulesDue n (suc number) left)
+    (number-tracks 32 (ruleWidth n number left) (entriesDue n number left) refl (λ w. refl) (λ v. refl))
+    λ w. times-tracks (λ l. entry n) (entriesDue n number left) w (λ l h. entry-tracks n number left l)
+
+-- where l rules are still to come, the next is number m - l and one more
+rules-track : (n m : ℕ) → Tracks (allRules n m) (rulesDue n 1 m) (λ rs. nothingMore)
+unfolding allRules
+rules-track n m =
+    subst (λ (k : ℕ). Tracks (allRules n m) (rulesDue n (suc k) m) (λ rs. nothingMore)) (let z : m - m ≡ 0 = omega arith in z)
+    (times-tracks (λ left. rule n (m - left)) (λ l. rulesDue n (suc (m - l)) l) m one)
+  where
+    one : (l : ℕ) → l < m → Tracks (rule n (m - l)) (rulesDue n (suc (m - suc l)) (suc l)) (λ r. rulesDue n (suc (m - l)) l)
+    one l h =
+        let z : m - l ≡ suc (m - suc l) = omega arith in
+        subst (λ (k : ℕ). Tracks (rule n (m - l)) (ruleWidth n k l) (λ r. rulesDue n (suc (m - l)) l)) z (rule-tracks n (m - l) l)
 
 pub hall-tracks : Tracks hall deviceCount (λ h. nothingMore)
 unfolding hall
 hall-tracks =
-    then-tracks (word badCount (upTo 200)) _ deviceCount (λ n. costsDue n n) (λ h. nothingMore)
+    then-tracks (word badDeviceCount (upTo 200)) _ deviceCount (λ n. costsDue n n) (λ h. nothingMore)
     (number-tracks 200 deviceCount (λ n. costsDue n n) refl (λ w. refl) (λ v. refl))
-    λ n. then-tracks (times n cost) _ (costsDue n n) (λ cs. ruleCount n) (λ h. nothingMore)
-    (times-tracks cost (costsDue n) (λ l. number-tracks 1000000000 (deviceCost n l) (λ c. costsDue n l) refl (λ w. refl) (λ v. refl)) n)
-    λ cs. then-tracks (word badCount (upTo 2000)) _ (ruleCount n) (rulesDue n) (λ h. nothingMore)
-    (number-tracks 2000 (ruleCount n) (rulesDue n) refl (λ w. refl) (λ v. refl))
-    λ m. then-tracks (times m (rule n)) _ (rulesDue n m) (λ rs. nothingMore) (λ h. nothingMore)
-    (times-tracks (rule n) (rulesDue n) (rule-tracks n) m)
+    λ n. then-tracks (times n (λ left. cost)) _ (costsDue n n) (λ cs. ruleCount n) (λ h. nothingMore)
+    (times-tracks (λ left. cost) (costsDue n) n (λ l h. number-tracks 1000000000 (deviceCost n l) (λ c. costsDue n l) refl (λ w. refl) (λ v. refl)))
+    λ cs. then-tracks (word badRuleCount (upTo 2000)) _ (ruleCount n) (rulesDue n 1) (λ h. nothingMore)
+    (number-tracks 2000 (ruleCount n) (rulesDue n 1) refl (λ w. refl) (λ v. refl))
+    λ m. then-tracks (allRules n m) _ (rulesDue n 1 m) (λ rs. nothingMore) (λ h. nothingMore)
+    (rules-track n m)
     λ rs ws i at. at
 
 -- ── one way to stop ──

@@ -15,7 +15,9 @@ pub mod Reading
 pub mod Sheets
 pub mod Due
 pub mod Reasons
+pub mod Widths
 pub mod Budget
+pub mod Refusals
 pub mod Answers
 pub mod Exactly
 pub mod Largest

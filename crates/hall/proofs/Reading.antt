@@ -7,7 +7,7 @@ use mathlib.Core.Path.{_≡_, refl, sym, _∙_, ap, subst}
 use mathlib.Core.Bool.{Bool, true, false}
 use mathlib.Core.List.{List, [], _∷_, _++_, append-assoc}
 use mathlib.Core.Option.{Option, none, some}
-use Prim.Native.Nat.{ℕ, zero, suc, _+_, _≤_, _<_}
+use Prim.Native.Nat.{ℕ, zero, suc, _+_, _-_, _≤_, _<_}
 use native.Mathlib.Omega.{arith}
 use lib.ListN.{length, drop, getElem?, length-append}
 use lib.Seq.{drop-drop, drop-append-seam}
@@ -17,7 +17,7 @@ use borrow.Author.Tests.{leb-true, ltb-true}
 use Rattle.hall.specs.Hall.{Entry, at1, at0, device, Rule}
 use Rattle.lists.specs.Lists.{Each}
 use Rattle.hall.specs.Ranges.{RuleInRange, HallInRange, wordsOf, numberWords, entryWords, ruleWords, words}
-use Rattle.hall.specs.Reading.{Fault, badCount, badCost, badEntry, Read, bad, got, Reader, then, _>>=_, yield, asRead, atWord, word, onlyIf, upTo, asEntry, times, cost, entry, rule, hall}
+use Rattle.hall.specs.Reading.{Fault, badDeviceCount, badCost, badEntry, badRuleCount, badWidth, Read, bad, got, Reader, then, _>>=_, yield, asRead, atWord, word, onlyIf, upTo, asEntry, times, cost, entry, rule, allRules, hall}
 
 -- ── places ──
 pub word-drop : (ws : List ℤ) (i : ℕ) (w : ℤ) → getElem? ws i ≡ some w → drop i ws ≡ w ∷ drop (suc i) ws
@@ -112,7 +112,7 @@ entry-values n (negsuc v) a e = go (ltb v n) refl e
     go true u e = let z : at0 v ≡ a = cc in subst (λ (a : Entry). (entryWords a ≡ negsuc v ∷ []) × (device a < n)) z (refl, ltb-true v n u)
     go false u e = no-value e
 
-module _ {A : Type 0} (r : Reader A) (f : A → List ℤ) (P : A → Type 0) (takes : Takes r f P) where
+module _ {A : Type 0} (r : ℕ → Reader A) (f : A → List ℤ) (P : A → Type 0) (takes : (left : ℕ) → Takes (r left) f P) where
   one-more : {k i j₁ j₂ : ℕ} {ws : List ℤ} (a : A) (l : List A) → Took f P ws i a j₁ → Took (wordsOf f) (λ l. (length l ≡ k) × Each P l) ws j₁ l j₂ → Took (wordsOf f) (λ l. (length l ≡ suc k) × Each P l) ws i (a ∷ l) j₂
   unfolding wordsOf
   one-more {j₂ = j₂} {ws} a l t u =
@@ -124,27 +124,31 @@ module _ {A : Type 0} (r : Reader A) (f : A → List ℤ) (P : A → Type 0) (ta
   unfolding times wordsOf
   times-takes zero ws i l j e = moved (wordsOf f) (λ l. (length l ≡ 0) × Each P l) ws i e (record { taken = refl; next = omega arith; good = (refl, tt) })
   times-takes (suc k) ws i l j e =
-      let x = reads r (λ a. times k r >>= λ m. yield (a ∷ m)) ws i l j e in
+      let x = reads (r k) (λ a. times k r >>= λ m. yield (a ∷ m)) ws i l j e in
       let y = reads (times k r) (λ m. yield (x .value ∷ m)) ws (x .place) l j (x .two) in
-      moved (wordsOf f) (λ l. (length l ≡ suc k) × Each P l) ws i (y .two) (one-more (x .value) (y .value) (takes ws i (x .value) (x .place) (x .one)) (times-takes k ws (x .place) (y .value) (y .place) (y .one)))
+      moved (wordsOf f) (λ l. (length l ≡ suc k) × Each P l) ws i (y .two) (one-more (x .value) (y .value) (takes k ws i (x .value) (x .place) (x .one)) (times-takes k ws (x .place) (y .value) (y .place) (y .one)))
 
-count-takes : (most : ℕ) → Takes (word badCount (upTo most)) numberWords (λ n. n ≤ most)
-count-takes most = word-takes badCount (upTo most) numberWords (λ n. n ≤ most) (up-to-values most)
+pub count-takes : (c : Fault) (most : ℕ) → Takes (word c (upTo most)) numberWords (λ n. n ≤ most)
+count-takes c most = word-takes c (upTo most) numberWords (λ n. n ≤ most) (up-to-values most)
 
-costs-take : (n : ℕ) → Takes (times n cost) (wordsOf numberWords) (λ l. (length l ≡ n) × Each (λ c. c ≤ 1000000000) l)
-costs-take n = times-takes cost numberWords (λ c. c ≤ 1000000000) (word-takes badCost (upTo 1000000000) numberWords (λ c. c ≤ 1000000000) (up-to-values 1000000000)) n
+pub costs-take : (n : ℕ) → Takes (times n (λ left. cost)) (wordsOf numberWords) (λ l. (length l ≡ n) × Each (λ c. c ≤ 1000000000) l)
+costs-take n = times-takes (λ left. cost) numberWords (λ c. c ≤ 1000000000) (λ left. count-takes badCost 1000000000) n
 
-rule-takes : (n : ℕ) → Takes (rule n) ruleWords (RuleInRange n)
+pub rule-takes : (n number : ℕ) → Takes (rule n number) ruleWords (RuleInRange n)
 unfolding rule ruleWords
-rule-takes n ws i l j e =
-    let x = reads (word badCount (upTo 32)) (λ w. times w (entry n)) ws i l j e in
-    let t = count-takes 32 ws i (x .value) (x .place) (x .one) in
-    let u = times-takes (entry n) entryWords (λ e. device e < n) (word-takes badEntry (asEntry n) entryWords (λ e. device e < n) (entry-values n)) (x .value) ws (x .place) l j (x .two) in
+rule-takes n number ws i l j e =
+    let x = reads (word (badWidth number) (upTo 32)) (λ w. times w (λ left. entry n)) ws i l j e in
+    let t = count-takes (badWidth number) 32 ws i (x .value) (x .place) (x .one) in
+    let u = times-takes (λ left. entry n) entryWords (λ e. device e < n) (λ left. word-takes badEntry (asEntry n) entryWords (λ e. device e < n) (entry-values n)) (x .value) ws (x .place) l j (x .two) in
     let n1 = t .next in
     let n2 = u .next in
     let size = u .good .0 in
     let few = t .good in
     record { taken = rw size (t .taken ∙ ap (λ (v : List ℤ). pos (x .value) ∷ v) (u .taken)); next = omega arith; good = record { width = omega arith; named = u .good .1 } }
+
+rules-take : (n m : ℕ) → Takes (allRules n m) (wordsOf ruleWords) (λ l. (length l ≡ m) × Each (RuleInRange n) l)
+unfolding allRules
+rules-take n m = times-takes (λ left. rule n (m - left)) ruleWords (RuleInRange n) (λ left. rule-takes n (m - left)) m
 
 -- a hall that was read part by part
 hall-made : (ws : List ℤ) (cs : List ℕ) (rs : List Rule) (n m i j₁ j₂ j₃ j : ℕ)
@@ -172,12 +176,12 @@ hall-made ws cs rs n m i j₁ j₂ j₃ j a b c d =
 pub hall-takes : Takes hall words HallInRange
 unfolding hall
 hall-takes ws i h j e =
-    let w = reads (word badCount (upTo 200)) _ ws i h j e in
-    let x = reads (times (w .value) cost) _ ws (w .place) h j (w .two) in
-    let y = reads (word badCount (upTo 2000)) _ ws (x .place) h j (x .two) in
-    let z = reads (times (y .value) (rule (w .value))) _ ws (y .place) h j (y .two) in
+    let w = reads (word badDeviceCount (upTo 200)) _ ws i h j e in
+    let x = reads (times (w .value) (λ left. cost)) _ ws (w .place) h j (w .two) in
+    let y = reads (word badRuleCount (upTo 2000)) _ ws (x .place) h j (x .two) in
+    let z = reads (allRules (w .value) (y .value)) _ ws (y .place) h j (y .two) in
     moved words HallInRange ws i (z .two) (hall-made ws (x .value) (z .value) (w .value) (y .value) i (w .place) (x .place) (y .place) (z .place)
-    (count-takes 200 ws i (w .value) (w .place) (w .one))
+    (count-takes badDeviceCount 200 ws i (w .value) (w .place) (w .one))
     (costs-take (w .value) ws (w .place) (x .value) (x .place) (x .one))
-    (count-takes 2000 ws (x .place) (y .value) (y .place) (y .one))
-    (times-takes (rule (w .value)) ruleWords (RuleInRange (w .value)) (rule-takes (w .value)) (y .value) ws (y .place) (z .value) (z .place) (z .one)))
+    (count-takes badRuleCount 2000 ws (x .place) (y .value) (y .place) (y .one))
+    (rules-take (w .value) (y .value) ws (y .place) (z .value) (z .place) (z .one)))

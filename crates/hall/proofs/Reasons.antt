@@ -16,7 +16,7 @@ use lib.Dec.{ltb}
 use borrow.Author.Tests.{ltb-true, ltb-false, lt-ltb, le-ltb}
 use Rattle.hall.specs.Hall.{Hall}
 use Rattle.hall.specs.Ranges.{HallInRange, words, SheetOf}
-use Rattle.hall.specs.Reading.{Fault, tooShort, badCount, badCost, badEntry, extraWords, smallRoom, tooLong, Read, bad, got, then, hall, endedBy, ended, roomBy, hasRoom, decodeBy, decode}
+use Rattle.hall.specs.Reading.{Fault, tooShort, badDeviceCount, badCost, badEntry, extraWords, smallRoom, tooLong, badRuleCount, badWidth, Read, bad, got, then, hall, endedBy, ended, roomBy, hasRoom, decodeBy, decode}
 use Rattle.hall.specs.Due.{Due, deviceCount, deviceCost, ruleCount, ruleWidth, ruleEntry, nothingMore, dueAfter, due, faultFor, FirstWrong, WordsAfter, Reason}
 use Rattle.hall.proofs.Reading.{hall-takes}
 use Rattle.hall.proofs.Sheets.{hall-gives, accepted}
@@ -34,8 +34,8 @@ stopped-reason ws room f i (inl (w, n)) = subst (λ (f : Fault). Reason f i ws r
     go deviceCount e = wrong deviceCount e
     go (deviceCost k left) e = wrong (deviceCost k left) e
     go (ruleCount k) e = wrong (ruleCount k) e
-    go (ruleWidth k left) e = wrong (ruleWidth k left) e
-    go (ruleEntry k rules left) e = wrong (ruleEntry k rules left) e
+    go (ruleWidth k rule left) e = wrong (ruleWidth k rule left) e
+    go (ruleEntry k rule rules left) e = wrong (ruleEntry k rule rules left) e
     go nothingMore e = absurd (n e)
 
 -- a first wrong word of a kind other than 15
@@ -111,7 +111,7 @@ module _ (ws : List ℤ) (room : ℕ) where
   unfolding decode decodeBy
   verdict-only (got h j) v = accepted room ws h (v .0) ∙ rw (v .1)
   verdict-only (bad tooShort i) v = refuse tooShort i (v .short) (inr (refl, v))
-  verdict-only (bad badCount i) v = refuse badCount i (v .short) (reason-stopped ws badCount i v (λ e. let z : _≡_ {A = ℕ} 0 1 = cc in omega arith))
+  verdict-only (bad badDeviceCount i) v = refuse badDeviceCount i (v .short) (reason-stopped ws badDeviceCount i v (λ e. let z : _≡_ {A = ℕ} 0 1 = cc in omega arith))
   verdict-only (bad badCost i) v = refuse badCost i (v .short) (reason-stopped ws badCost i v (λ e. let z : _≡_ {A = ℕ} 0 1 = cc in omega arith))
   verdict-only (bad badEntry i) v = refuse badEntry i (v .short) (reason-stopped ws badEntry i v (λ e. let z : _≡_ {A = ℕ} 0 1 = cc in omega arith))
   verdict-only (bad extraWords i) v =
@@ -123,3 +123,5 @@ module _ (ws : List ℤ) (room : ℕ) where
       let l : length ws ≤ n = rw (v .sheet) (omega arith) in
       rw (le-ltb 16384 (length ws) (v .short), hall-front (v .hall) [] (v .ranges) (v .sheet ∙ sym (append-nil (words (v .hall)))), le-ltb n (length ws) l, lt-ltb room (length (v .hall .costs)) (v .small), v .place)
   verdict-only (bad tooLong i) v = rw (lt-ltb 16384 (length ws) (v .long), v .place)
+  verdict-only (bad badRuleCount i) v = refuse badRuleCount i (v .short) (reason-stopped ws badRuleCount i v (λ e. let z : _≡_ {A = ℕ} 0 1 = cc in omega arith))
+  verdict-only (bad (badWidth rule) i) v = refuse (badWidth rule) i (v .short) (reason-stopped ws (badWidth rule) i v (λ e. let z : _≡_ {A = ℕ} 0 1 = cc in omega arith))

@@ -11,7 +11,7 @@ use Rattle.lists.specs.Lists.{inFront}
 use Rattle.hall.specs.Hall.{Hall, Plan}
 use Rattle.hall.specs.Order.{costOf, heldOf}
 use Rattle.hall.specs.Walk.{Best, noneYet, soFar, Walked, walkHall}
-use Rattle.hall.specs.Reading.{Fault, faultCode, Read, bad, got, decode}
+use Rattle.hall.specs.Reading.{Fault, refusalNumbers, Read, bad, got, decode}
 
 -- "The answer is one value with a case each for least, none, spent and refused"
 pub data Answer : Type 0 where
@@ -47,7 +47,7 @@ abbrev pub numbers : Answer → List ℕ
 numbers (least cost held opened p) = 0 ∷ cost ∷ held ∷ opened ∷ []
 numbers (none opened) = 1 ∷ opened ∷ []
 numbers (spent opened) = 2 ∷ opened ∷ []
-numbers (refused f place) = faultCode f ∷ place ∷ []
+numbers (refused f place) = refusalNumbers f place
 
 -- the nodes opened; a refusal opens none
 abbrev pub nodesOf : Answer → ℕ

@@ -1,5 +1,5 @@
 -- What each word of a sheet is due to be, from the words before it, and the reasons for a refusal. 01, "The hall sheet" and
--- "The answer sheet of the search": "Each refusal is given only for its reason."
+-- "The answer sheet of the search": "Each refusal is given only for its reason."; 02, request 1, for the kinds of refusal.
 --
 -- In order: what can be due; what is due after a word; the ranges; the reason of each kind. Apart from the decoder (Reading):
 -- that the two agree is a theorem (proofs/Reasons). Definitions only.
@@ -13,29 +13,30 @@ use lib.IntN.{ℤ, pos, negsuc}
 use lib.Dec.{leb}
 use Rattle.hall.specs.Hall.{Hall}
 use Rattle.hall.specs.Ranges.{HallInRange, words}
-use Rattle.hall.specs.Reading.{Fault, tooShort, badCount, badCost, badEntry, extraWords, smallRoom, tooLong}
+use Rattle.hall.specs.Reading.{Fault, tooShort, badDeviceCount, badCost, badEntry, extraWords, smallRoom, tooLong, badRuleCount, badWidth}
 
--- n is the number of devices, `rules` how many rules are still to come, `left` how many of the same after this word
+-- n is the number of devices, `rule` the number of the rule at hand, from 1, `rules` how many rules are still to come, `left` how many
+-- of the same after this word
 pub data Due : Type 0 where
   deviceCount : Due
   deviceCost : (n left : ℕ) → Due
   ruleCount : (n : ℕ) → Due
-  ruleWidth : (n left : ℕ) → Due
-  ruleEntry : (n rules left : ℕ) → Due
+  ruleWidth : (n rule left : ℕ) → Due
+  ruleEntry : (n rule rules left : ℕ) → Due
   nothingMore : Due
 
--- so many costs, rules or entries are still to come
+-- so many costs are still to come; so many rules, from number `rule` on; so many entries of rule `rule`, and then so many rules
 abbrev pub costsDue : ℕ → ℕ → Due
 costsDue n zero = ruleCount n
 costsDue n (suc left) = deviceCost n left
 
-abbrev pub rulesDue : ℕ → ℕ → Due
-rulesDue n zero = nothingMore
-rulesDue n (suc left) = ruleWidth n left
+abbrev pub rulesDue : ℕ → ℕ → ℕ → Due
+rulesDue n rule zero = nothingMore
+rulesDue n rule (suc left) = ruleWidth n rule left
 
-abbrev pub entriesDue : ℕ → ℕ → ℕ → Due
-entriesDue n rules zero = rulesDue n rules
-entriesDue n rules (suc left) = ruleEntry n rules left
+abbrev pub entriesDue : ℕ → ℕ → ℕ → ℕ → Due
+entriesDue n rule rules zero = rulesDue n (suc rule) rules
+entriesDue n rule rules (suc left) = ruleEntry n rule rules left
 
 -- the number that a word says without its sign
 abbrev pub size : ℤ → ℕ
@@ -46,9 +47,9 @@ size (negsuc n) = suc n
 abbrev pub next : Due → ℤ → Due
 next deviceCount w = costsDue (size w) (size w)
 next (deviceCost n left) w = costsDue n left
-next (ruleCount n) w = rulesDue n (size w)
-next (ruleWidth n left) w = entriesDue n left (size w)
-next (ruleEntry n rules left) w = entriesDue n rules left
+next (ruleCount n) w = rulesDue n 1 (size w)
+next (ruleWidth n rule left) w = entriesDue n rule left (size w)
+next (ruleEntry n rule rules left) w = entriesDue n rule rules left
 next nothingMore w = nothingMore
 
 unfoldable pub dueAfter : Due → List ℤ → Due
@@ -68,17 +69,17 @@ abbrev pub inRangeOf : Due → ℤ → Bool
 inRangeOf deviceCount w = fromZeroTo 200 w
 inRangeOf (deviceCost n left) w = fromZeroTo 1000000000 w
 inRangeOf (ruleCount n) w = fromZeroTo 2000 w
-inRangeOf (ruleWidth n left) w = fromZeroTo 32 w
-inRangeOf (ruleEntry n rules left) w = leb 1 (size w) && leb (size w) n
+inRangeOf (ruleWidth n rule left) w = fromZeroTo 32 w
+inRangeOf (ruleEntry n rule rules left) w = leb 1 (size w) && leb (size w) n
 inRangeOf nothingMore w = false
 
--- "Meaning": the kind that a word outside its range gives
+-- "Meaning": the kind that a word outside its range gives. 02, request 1: a kind for each of the three counts
 abbrev pub faultFor : Due → Fault
-faultFor deviceCount = badCount
+faultFor deviceCount = badDeviceCount
 faultFor (deviceCost n left) = badCost
-faultFor (ruleCount n) = badCount
-faultFor (ruleWidth n left) = badCount
-faultFor (ruleEntry n rules left) = badEntry
+faultFor (ruleCount n) = badRuleCount
+faultFor (ruleWidth n rule left) = badWidth rule
+faultFor (ruleEntry n rule rules left) = badEntry
 faultFor nothingMore = extraWords
 
 -- the word at a place is in the range of what it is due to be; so is each word before a place
@@ -88,7 +89,7 @@ rightAt ws i = inRangeOf (due (take i ws)) (getD ws i (pos 0))
 abbrev pub RightBefore : List ℤ → ℕ → Type 0
 RightBefore ws i = (j : ℕ) → j < i → rightAt ws j ≡ true
 
--- 12, 13, 14: "each word checked as it is read, so the first fault decides"
+-- 12, 13, 14, 18, 19: "each word checked as it is read, so the first fault decides"
 pub record FirstWrong (f : Fault) (i : ℕ) (ws : List ℤ) : Type 0 where
   pub short : length ws ≤ 16384
   pub inside : i < length ws
@@ -130,9 +131,11 @@ pub record TooManyWords (i : ℕ) (ws : List ℤ) : Type 0 where
 -- the reason for a refusal of each kind, with its place
 abbrev pub Reason : Fault → ℕ → List ℤ → ℕ → Type 0
 Reason tooShort i ws room = EndsTooSoon i ws
-Reason badCount i ws room = FirstWrong badCount i ws
+Reason badDeviceCount i ws room = FirstWrong badDeviceCount i ws
 Reason badCost i ws room = FirstWrong badCost i ws
 Reason badEntry i ws room = FirstWrong badEntry i ws
 Reason extraWords i ws room = WordsAfter i ws
 Reason smallRoom i ws room = RoomTooShort i ws room
 Reason tooLong i ws room = TooManyWords i ws
+Reason badRuleCount i ws room = FirstWrong badRuleCount i ws
+Reason (badWidth rule) i ws room = FirstWrong (badWidth rule) i ws

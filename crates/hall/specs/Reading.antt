@@ -1,29 +1,34 @@
--- Decoding a sheet from left to right, each word checked as it is read. 01, "The hall sheet" and "The answer sheet of the search".
+-- Decoding a sheet from left to right, each word checked as it is read. 01, "The hall sheet" and "The answer sheet of the search";
+-- 02, request 1, for the kinds of refusal.
 --
--- In order: the kinds of refusal and their codes; readers; one word; a number, an entry, so many of something, a rule, a hall;
+-- In order: the kinds of refusal and their numbers; readers; one word; a number, an entry, so many of something, a rule, a hall;
 -- the end of the sheet and the plan room; the whole. Definitions only.
 use mathlib.Core.Bool.{Bool, true, false}
 use mathlib.Core.List.{List, [], _∷_}
 use mathlib.Core.Option.{Option, none, some}
-use Prim.Native.Nat.{ℕ, zero, suc}
+use Prim.Native.Nat.{ℕ, zero, suc, _-_}
 use lib.ListN.{length, getElem?}
 use lib.IntN.{ℤ, pos, negsuc}
 use lib.Dec.{leb, ltb}
 use Rattle.hall.specs.Hall.{Entry, at1, at0, Rule, Hall}
 
--- the kinds of refusal, in the table's order
+-- the kinds of refusal, in the order of their codes. 02, request 1: "the width's also returns the rule's number, from 1"
 pub data Fault : Type 0 where
-  tooShort badCount badCost badEntry extraWords smallRoom tooLong : Fault
+  tooShort badDeviceCount badCost badEntry extraWords smallRoom tooLong badRuleCount : Fault
+  badWidth : (rule : ℕ) → Fault
 
--- "Code": the one place that turns a kind into its number
-abbrev pub faultCode : Fault → ℕ
-faultCode tooShort = 11
-faultCode badCount = 12
-faultCode badCost = 13
-faultCode badEntry = 14
-faultCode extraWords = 15
-faultCode smallRoom = 16
-faultCode tooLong = 17
+-- "Code" and "Returned" of a refusal: its code, its place and, for a width, its rule. 02, request 1: "Code 12 shall mean the device
+-- count only"; "18 for the rule count, 19 for the width". The one place that gives a refusal its numbers
+abbrev pub refusalNumbers : Fault → (place : ℕ) → List ℕ
+refusalNumbers tooShort place = 11 ∷ place ∷ []
+refusalNumbers badDeviceCount place = 12 ∷ place ∷ []
+refusalNumbers badCost place = 13 ∷ place ∷ []
+refusalNumbers badEntry place = 14 ∷ place ∷ []
+refusalNumbers extraWords place = 15 ∷ place ∷ []
+refusalNumbers smallRoom place = 16 ∷ place ∷ []
+refusalNumbers tooLong place = 17 ∷ place ∷ []
+refusalNumbers badRuleCount place = 18 ∷ place ∷ []
+refusalNumbers (badWidth rule) place = 19 ∷ place ∷ rule ∷ []
 
 -- what reading comes to: a refusal and its place, or a value and the place of the next word
 pub data Read (A : Type 0) : Type 0 where
@@ -75,12 +80,12 @@ asEntry n (pos zero) = none
 asEntry n (pos (suc v)) = onlyIf (ltb v n) (at1 v)
 asEntry n (negsuc v) = onlyIf (ltb v n) (at0 v)
 
--- so many of something, one after another
-unfoldable pub times : {A : Type 0} → ℕ → Reader A → Reader (List A)
+-- so many of something, one after another; each reader is told how many come after it
+unfoldable pub times : {A : Type 0} → ℕ → (ℕ → Reader A) → Reader (List A)
 times zero r = yield []
-times (suc k) r = do
-  a ← r
-  rest ← times k r
+times (suc left) r = do
+  a ← r left
+  rest ← times left r
   yield (a ∷ rest)
 
 abbrev pub cost : Reader ℕ
@@ -89,19 +94,23 @@ cost = word badCost (upTo 1000000000)
 abbrev pub entry : ℕ → Reader Entry
 entry n = word badEntry (asEntry n)
 
--- "each its width and then that many entries"
-unfoldable pub rule : ℕ → Reader Rule
-rule n = do
-  width ← word badCount (upTo 32)
-  times width (entry n)
+-- "each its width and then that many entries": a rule of n devices, by its number
+unfoldable pub rule : (n number : ℕ) → Reader Rule
+rule n number = do
+  width ← word (badWidth number) (upTo 32)
+  times width (λ left. entry n)
+
+-- m rules of n devices, numbered from 1: the one with `left` after it is number m - left
+unfoldable pub allRules : (n m : ℕ) → Reader (List Rule)
+allRules n m = times m (λ left. rule n (m - left))
 
 -- "the device count n, then n costs, device 1 first; the rule count m, then m rules"
 unfoldable pub hall : Reader Hall
 hall = do
-  n ← word badCount (upTo 200)
-  costs ← times n cost
-  m ← word badCount (upTo 2000)
-  rules ← times m (rule n)
+  n ← word badDeviceCount (upTo 200)
+  costs ← times n (λ left. cost)
+  m ← word badRuleCount (upTo 2000)
+  rules ← allRules n m
   yield (record { costs = costs; rules = rules })
 
 -- 15: "words after the last rule | place of the first such word"

@@ -1,7 +1,8 @@
--- Sheets with known answers. 01, "Sheets with known answers", and rows of our own.
+-- Sheets with known answers. 01, "Sheets with known answers", with what 02 changed in it, and rows of our own.
 --
 -- In order: what a row says and what the definitions say for it; 01's rows with a star; 01's other rows; rows for ways astray
--- that no starred row tells apart; the largest total. Definitions only; that the rows are right is proofs/AnswerTables.
+-- that no starred row tells apart; which count was wrong; the largest total. Definitions only; that the rows are right is
+-- proofs/AnswerTables.
 use mathlib.Core.List.{List, [], _∷_, _++_}
 use Prim.Native.Nat.{ℕ, zero, suc}
 use lib.ListN.{replicate}
@@ -68,7 +69,7 @@ starred =
     (+ 4 ∷ [])
     ∷ []
 
--- 01's other rows
+-- 01's other rows. 02, request 1: "01's "12 at 3" becomes 19 at 3, rule 1"
 unfoldable pub unstarred : List Row
 unstarred =
     row [] (11 ∷ 0 ∷ []) []
@@ -77,7 +78,7 @@ unstarred =
     ∷ row (+ 1 ∷ + 1000000001 ∷ + 0 ∷ []) (13 ∷ 1 ∷ []) []
     ∷ row (+ 1 ∷ + 5 ∷ + 1 ∷ + 1 ∷ []) (11 ∷ 4 ∷ []) []
     ∷ row (+ 1 ∷ + 5 ∷ + 1 ∷ + 1 ∷ + 2 ∷ []) (14 ∷ 4 ∷ []) []
-    ∷ row (+ 1 ∷ + 5 ∷ + 1 ∷ + 33 ∷ []) (12 ∷ 3 ∷ []) []
+    ∷ row (+ 1 ∷ + 5 ∷ + 1 ∷ + 33 ∷ []) (19 ∷ 3 ∷ 1 ∷ []) []
     ∷ row (+ 1 ∷ + 5 ∷ + 0 ∷ + 7 ∷ []) (15 ∷ 3 ∷ []) []
     ∷ under 1000 0 (+ 1 ∷ + 5 ∷ + 0 ∷ []) (16 ∷ 1 ∷ []) []
     ∷ under 0 200 (+ 0 ∷ + 0 ∷ []) (2 ∷ 0 ∷ []) []
@@ -107,6 +108,25 @@ astray =
     ∷ under 0 200 (+ 1 ∷ + 5 ∷ + 0 ∷ + 7 ∷ []) (15 ∷ 3 ∷ []) []
     ∷ under 1000 0 (+ 1 ∷ + 5 ∷ + 0 ∷ + 7 ∷ []) (15 ∷ 3 ∷ []) []
     ∷ row (+ 0 ∷ + 2000 ∷ + 1 ∷ + 1 ∷ []) (14 ∷ 3 ∷ []) []
+    ∷ []
+
+-- 02, request 1, "Which count was wrong": rows that tell the three counts apart, and the rules
+unfoldable pub counts : List Row
+counts =
+    -- a device count below 0
+    row (- 1 ∷ []) (12 ∷ 0 ∷ []) []
+    -- a rule count beyond its range, and below 0
+    ∷ row (+ 0 ∷ + 2001 ∷ []) (18 ∷ 1 ∷ []) []
+    ∷ row (+ 1 ∷ + 5 ∷ - 1 ∷ []) (18 ∷ 2 ∷ []) []
+    -- a width below 0
+    ∷ row (+ 1 ∷ + 5 ∷ + 1 ∷ - 1 ∷ []) (19 ∷ 3 ∷ 1 ∷ []) []
+    -- the third of four rules, behind an empty one and one of two entries
+    ∷ row (+ 1 ∷ + 5 ∷ + 4 ∷ + 0 ∷ + 2 ∷ + 1 ∷ - 1 ∷ + 33 ∷ []) (19 ∷ 7 ∷ 3 ∷ []) []
+    -- the last of two rules, in a sheet whose words go on behind it
+    ∷ row (+ 0 ∷ + 2 ∷ + 0 ∷ + 40 ∷ + 7 ∷ []) (19 ∷ 3 ∷ 2 ∷ []) []
+    -- a wrong entry and a missing width of the second rule: no third number
+    ∷ row (+ 1 ∷ + 5 ∷ + 2 ∷ + 0 ∷ + 1 ∷ + 2 ∷ []) (14 ∷ 5 ∷ []) []
+    ∷ row (+ 1 ∷ + 5 ∷ + 2 ∷ + 0 ∷ []) (11 ∷ 4 ∷ []) []
     ∷ []
 
 -- the largest total: 200 devices at 1,000,000,000, each held by a rule of its own

@@ -8,7 +8,7 @@ use Rattle.hall.specs.Hall.{holds, isFree, hold, meetsRule, meetsAll, firstUnme
 use Rattle.hall.specs.Order.{ifHeld, costOf, heldOf, heldFrom, less, rank, better}
 use Rattle.hall.specs.Walk.{keep, oneMore, closes, shut, still, after, entryBy, through, opening, nodeBy, node, walk, walkFrom, start, walkHall}
 use Rattle.hall.specs.Ranges.{wordsOf}
-use Rattle.hall.specs.Reading.{times, rule, hall, decodeBy, decode}
+use Rattle.hall.specs.Reading.{times, rule, allRules, hall, decodeBy, decode}
 use Rattle.hall.specs.Answer.{spent, answer}
 use Rattle.typed.specs.Text as text
 use Rattle.typed.specs.Printing.{digitsBy, digitsOf}
@@ -17,7 +17,7 @@ use Rattle.reply.specs.Table.{Row, output, rows, million, fiveBillion, l
 use Rattle.reply.proofs.Digits.{decimal-is}
 
 pub rows-right : map output rows ≡ map (λ (r : Row). r .printed) rows
-unfolding rows printedFor text.readText text.readTokens text.numberOf text.decimal text.tokensFrom text.front answer decode decodeBy hall rule times walkHall walkFrom start walk node nodeBy opening through entryBy after still shut closes oneMore keep better rank less heldFrom heldOf costOf ifHeld firstUnmet meetsAll meetsRule hold isFree holds wordsOf spaced digitsBy
+unfolding rows printedFor text.readText text.readTokens text.numberOf text.decimal text.tokensFrom text.front answer decode decodeBy hall allRules rule times walkHall walkFrom start walk node nodeBy opening through entryBy after still shut closes oneMore keep better rank less heldFrom heldOf costOf ifHeld firstUnmet meetsAll meetsRule hold isFree holds wordsOf spaced digitsBy
 rows-right = refl
 
 -- large numbers, by the law that a number's digits are the kit's

@@ -1,11 +1,11 @@
 -- Everything that is printed has place in a room of 1,024 bytes: the lines of none and spent (`none-fits`, `spent-fits`), of a refusal,
--- whose numbers have 64 bits at most (`wider`, `refused-fits`), and of a least plan (`least-fits`), at most 49 bytes, which leave 975
+-- which has at most four numbers of 64 bits (`refused-fits`), and of a least plan (`least-fits`), at most 49 bytes, which leave 975
 -- (`hold-fits`); the entries of the held devices (`entries-short`), at most 892, in a line of 897. Assumes nothing.
 use mathlib.Core.Path.{_≡_, refl}
 use mathlib.Core.List.{List, [], _∷_, _++_}
-use Prim.Native.Nat.{ℕ, zero, suc, _+_, _^_, _≤_, _<_}
+use Prim.Native.Nat.{ℕ, zero, suc, _+_, _*_, _^_, _≤_, _<_}
 use native.Mathlib.Omega.{arith}
-use lib.ListN.{length, take, length-append, length-take}
+use lib.ListN.{length, getD, take, length-append, length-take}
 use Rattle.lists.specs.Bytes.{bytes}
 use Rattle.hall.specs.Order.{heldBy, heldFrom, heldEntries}
 use Rattle.hall.specs.Ranges.{wordsOf}
@@ -22,9 +22,6 @@ short-32 n h = digits-few n n 9 (omega arith)
 short-64 : (n : ℕ) → n < 2 ^ 64 → length (digitsOf n) ≤ 20
 short-64 n h = digits-few n n 19 (omega arith)
 
-pub wider : (n : ℕ) → n < 2 ^ 32 → n < 2 ^ 64
-wider n h = omega arith
-
 one-more : (n : ℕ) (numbers : List ℕ) → length (spaced digitsOf (n ∷ numbers)) ≡ 1 + length (digitsOf n) + length (spaced digitsOf numbers)
 unfolding spaced
 one-more n numbers = omega (arith, length-append (digitsOf n) (spaced digitsOf numbers))
@@ -32,6 +29,11 @@ one-more n numbers = omega (arith, length-append (digitsOf n) (spaced digitsOf n
 no-more : length (spaced digitsOf []) ≡ 0
 unfolding spaced
 no-more = refl
+
+numbers-short : (numbers : List ℕ) → ((i : ℕ) → getD numbers i 0 < 2 ^ 64) → length (spaced digitsOf numbers) ≤ 21 * length numbers
+numbers-short [] small = omega (arith, no-more)
+numbers-short (n ∷ numbers) small =
+    omega (arith, one-more n numbers, short-64 n (small 0), numbers-short numbers (λ (i : ℕ). small (suc i)))
 
 line-size : (word numbers : List ℕ) → length (line word digitsOf numbers) ≡ length word + length (spaced digitsOf numbers) + 1
 line-size word numbers = omega (arith, length-append word (spaced digitsOf numbers ++ lineEnd), length-append (spaced digitsOf numbers) lineEnd)
@@ -60,9 +62,8 @@ module _ (room : List ℕ) (size : length room ≡ 1024) where
   pub spent-fits : (opened : ℕ) → opened < 2 ^ 32 → Fits (line (bytes "spent") digitsOf (opened ∷ [])) 0 room
   spent-fits opened h = count-fits (bytes "spent") opened (omega arith) h
 
-  pub refused-fits : (code place : ℕ) → code < 2 ^ 64 → place < 2 ^ 64 → Fits (refusedLine code place) 0 room
-  refused-fits code place x y =
-      omega (arith, line-size (bytes "refused") (code ∷ place ∷ []), one-more code (place ∷ []), one-more place [], no-more, short-64 code x, short-64 place y)
+  pub refused-fits : (numbers : List ℕ) → length numbers ≤ 4 → ((i : ℕ) → getD numbers i 0 < 2 ^ 64) → Fits (refusedLine numbers) 0 room
+  refused-fits numbers few small = omega (arith, line-size (bytes "refused") numbers, numbers-short numbers small)
 
   pub least-fits : (cost held opened : ℕ) → cost < 2 ^ 64 → held < 2 ^ 32 → opened < 2 ^ 32 → Fits (line (bytes "least") digitsOf (cost ∷ held ∷ opened ∷ [])) 0 room
   least-fits cost held opened x y z = omega (arith, least-short cost held opened x y z)

@@ -2,14 +2,15 @@
 -- answer (`prints-least`, `prints-none`, `prints-spent`, `prints-refused`). Assumes nothing.
 use mathlib.Core.Path.{_≡_, _∙_, ap}
 use mathlib.Core.List.{List, [], _∷_, _++_}
-use Prim.Native.Nat.{ℕ}
+use Prim.Native.Nat.{ℕ, _-_}
 use native.Mathlib.Omega.{arith}
 use lib.ListN.{length, take, drop}
 use Rattle.lists.specs.Lists.{inFront}
 use Rattle.lists.specs.Bytes.{bytes}
 use Rattle.lists.proofs.InFront.{front-stands, rest-stays, sets-in-front}
-use Rattle.sheet.specs.Contract.{refusalCode}
+use Rattle.sheet.specs.Contract.{numbersAt, Tells}
 use Rattle.sheet.specs.declared.Refusal.{Refusal}
+use Rattle.sheet.proofs.ToldNumbers.{told-front}
 use Rattle.typed.specs.Printing.{digitsOf}
 use Rattle.search.specs.declared.Answer.{Answer}
 use Rattle.search.specs.declared.Answer.the-variants.{Least, None, Spent, Refused}
@@ -47,6 +48,7 @@ module _ (answer : Answer) (plan before : List ℕ) (r : ℕ) (after : List ℕ)
   pub prints-spent : (opened : ℕ) → answer ≡ Spent opened → Puts (line (bytes "spent") digitsOf (opened ∷ [])) 0 before r after → Prints answer plan before r after
   prints-spent opened e p = prints (line (bytes "spent") digitsOf (opened ∷ [])) (rw e) p
 
-  pub prints-refused : (kind : Refusal) (code place : ℕ) → answer ≡ Refused kind place → code ≡ refusalCode kind → Puts (refusedLine code place) 0 before r after
-      → Prints answer plan before r after
-  prints-refused kind code place e c p = prints (refusedLine code place) (rw (e, c)) p
+  -- the numbers of a refusal are those that stand in front of the array, as many as was told
+  pub prints-refused : (kind : Refusal) (place : ℕ) (numbers numbers′ : List ℕ) (count : ℕ) → answer ≡ Refused kind place → Tells (numbersAt kind place) numbers count numbers′
+      → Puts (refusedLine (take (count - 0) numbers′)) 0 before r after → Prints answer plan before r after
+  prints-refused kind place numbers numbers′ count e t p = prints (refusedLine (take (count - 0) numbers′)) (rw (e, told-front (numbersAt kind place) numbers count numbers′ t)) p

@@ -105,12 +105,12 @@ module _ (typed : List ℕ) (words : List ℤ) (large : length words ≡ 16384) 
       record { size = size; says = rw (sym g) says; fits = fits; room = rw (sym g) room; front = rw (sym g) (both .0); rest = both .1 }
 
   pub replies-refused : (m : Mistake) (code place : ℕ) → reading ≡ Refusal m place → code ≡ text.mistakeCode m → length before ≡ 1024
-      → Puts (refusedLine code place) 0 before r after → Replies typed before r after
+      → Puts (refusedLine (code ∷ place ∷ [])) 0 before r after → Replies typed before r after
   replies-refused m code place e c size p =
-      replies (text.refused m place) (read-refused typed words reading words′ reads m place e) (refusedLine code place) (rw c) size
+      replies (text.refused m place) (read-refused typed words reading words′ reads m place e) (refusedLine (code ∷ place ∷ [])) (rw c) size
       (omega (arith, p .ends))
       (omega (arith, p .fits))
-      (put-in-front (refusedLine code place) before r after p)
+      (put-in-front (refusedLine (code ∷ place ∷ [])) before r after p)
 
   pub replies-found : (w : ℕ) (marks : List ℕ) (found : Answer) (plan : List ℕ) → reading ≡ Words w → marks ≡ replicate 200 0
       → Finds (take (w - 0) words′) 1000000 marks found plan → length plan ≡ length marks → Prints found plan before r after → Replies typed before r after

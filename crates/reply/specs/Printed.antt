@@ -1,4 +1,4 @@
--- What `leastplan` prints. 01, "What leastplan prints".
+-- What `leastplan` prints. 01, "What leastplan prints"; 02, request 1.
 --
 -- In order: items behind blanks; a line; the line of the held devices; a refusal; an answer; a text that was read; the whole, from the text
 -- that was typed. The digits of a number are those of Rattle.typed.specs.Printing, none of them a leading zero. Definitions only.
@@ -36,20 +36,20 @@ holdLine plan = line (bytes "hold") printedWord (wordsOf entryWords (heldEntries
 abbrev pub printedEntries : List Entry → List ℕ
 printedEntries entries = spaced printedWord (wordsOf entryWords entries)
 
--- "`refused CODE PLACE`, for either table"
-abbrev pub refusedLine : (code place : ℕ) → List ℕ
-refusedLine code place = line (bytes "refused") digitsOf (code ∷ place ∷ [])
+-- "`refused CODE PLACE`, for either table"; 02, request 1: "the rule's number .. which `leastplan` prints last"
+abbrev pub refusedLine : (numbers : List ℕ) → List ℕ
+refusedLine numbers = line (bytes "refused") digitsOf numbers
 
 -- "`least COST HELD OPENED`, then a line `hold`"; "`none OPENED`, or `spent 1000000`"
 abbrev pub printedAnswer : Answer → List ℕ
 printedAnswer (least cost held opened plan) = line (bytes "least") digitsOf (cost ∷ held ∷ opened ∷ []) ++ holdLine plan
 printedAnswer (none opened) = line (bytes "none") digitsOf (opened ∷ [])
 printedAnswer (spent opened) = line (bytes "spent") digitsOf (opened ∷ [])
-printedAnswer (refused fault place) = refusedLine (sheet.faultCode fault) place
+printedAnswer (refused fault place) = refusedLine (sheet.refusalNumbers fault place)
 
 -- "uses .. a budget of 1,000,000"; the plan room has 200 bytes, a mark for each device that a sheet may have
 abbrev pub printedReading : text.Read (List ℤ) → List ℕ
-printedReading (text.refused mistake place) = refusedLine (text.mistakeCode mistake) place
+printedReading (text.refused mistake place) = refusedLine (text.mistakeCode mistake ∷ place ∷ [])
 printedReading (text.got words) = printedAnswer (answer words 1000000 200)
 
 -- "uses a room of 16,384 words": what is printed for a text

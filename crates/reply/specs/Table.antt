@@ -38,6 +38,10 @@ rows =
     -- a sheet that is refused: too many devices; a word behind the last rule
     ∷ row "201" "refused 12 0\n"
     ∷ row "1 5 0 7" "refused 15 3\n"
+    -- 02, request 1: too many rules; the width of the first rule, and of the second
+    ∷ row "0 2001" "refused 18 1\n"
+    ∷ row "1 5 1 33" "refused 19 3 1\n"
+    ∷ row "1 5 2 0 -1" "refused 19 4 2\n"
     -- a text that is refused: a wrong byte; a number outside the words
     ∷ row "0 x" "refused 21 2\n"
     ∷ row "0 2147483648" "refused 22 2\n"

@@ -1,4 +1,5 @@
-// What `leastplan` prints, as bytes in a lent room; and the whole way from a typed text to them. 01, "What leastplan prints".
+// What `leastplan` prints, as bytes in a lent room; and the whole way from a typed text to them. 01, "What leastplan prints"; 02,
+// request 1.
 //
 // put copies bytes and digits into the room; lines makes a line of a word and its numbers, and the line of the held devices.
 ghost use mathlib.Core.Path.{_≡_};
@@ -40,7 +41,11 @@ pub fn print_answer(answer: Answer, plan: &[u8; 200], out: &mut [u8; 1024]) -> u
             let numbers = [opened as u64];
             put_line(b"spent", &numbers, 0, out)
         }
-        Answer::Refused(kind, place) => put_refused(sheet::code_of(kind), place, out),
+        Answer::Refused(kind, place) => {
+            let mut numbers = [0u64; 4];
+            let count = sheet::numbers_of(kind, place, &mut numbers);
+            put_refused(&numbers[0..count], out)
+        }
     }
 }
 
@@ -50,7 +55,11 @@ pub fn answer(text: &[u8], out: &mut [u8; 1024]) -> usize
 {
     let mut words = words_room();
     match typed::read(text, &mut words) {
-        Reading::Refused(mistake, place) => put_refused(typed::code_of(mistake), place, out),
+        Reading::Refused(mistake, place) => {
+            let code = typed::code_of(mistake) as u64;
+            let numbers = [code, place as u64];
+            put_refused(&numbers, out)
+        }
         Reading::Words(w) => {
             let mut plan = search::plan_room();
             let found = search::least_plan(&words[0..w], 1000000, &mut plan);

@@ -35,13 +35,13 @@ pub(crate) fn put_line(word: &[u8], numbers: &[u64], at: usize, out: &mut [u8]) 
     close_line(next, out)
 }
 
-// A refusal of either table, at the front of a reply's room.
-pub(crate) fn put_refused(code: u32, place: usize, out: &mut [u8]) -> usize
+// A refusal of either table, by its numbers, at the front of a reply's room.
+pub(crate) fn put_refused(numbers: &[u64], out: &mut [u8]) -> usize
+    requires { ⌜ length (now numbers) ≤ 4 ⌝ }
     requires { ⌜ length (now out) ≡ 1024 ⌝ }
-    ensures { λ r. ⌜ Puts (refusedLine code place) 0 (now (out .entry)) r (now (out .exit)) ⌝ }
+    ensures { λ r. ⌜ Puts (refusedLine (now (numbers .entry))) 0 (now (out .entry)) r (now (out .exit)) ⌝ }
 {
-    let numbers = [code as u64, place as u64];
-    put_line(b"refused", &numbers, 0, out)
+    put_line(b"refused", numbers, 0, out)
 }
 
 // One device, by its mark; devices are numbered from 0 here.

@@ -12,4 +12,5 @@ fn main() {
     tables::astray_steps();
     tables::astray_order();
     tables::astray_ends();
+    tables::counts();
 }

@@ -1,4 +1,5 @@
-// The rows of document 01's table, and rows for the ways a planner goes astray, as crates/hall/specs/Table.antt has them.
+// The rows of document 01's table, and rows of our own: ways a planner goes astray, and which count was wrong; as
+// crates/hall/specs/Table.antt has them.
 use crate::telling::row;
 use crate::telling::row_without_room;
 
@@ -71,4 +72,16 @@ pub(crate) fn astray_ends() {
     row(b"1 5 0 7", 0);
     row_without_room(b"1 5 0 7", 1000);
     row(b"0 2000 1 1", 1000);
+}
+
+// Which count was wrong.
+pub(crate) fn counts() {
+    row(b"-1", 1000);
+    row(b"0 2001", 1000);
+    row(b"1 5 -1", 1000);
+    row(b"1 5 1 -1", 1000);
+    row(b"1 5 4 0 2 1 -1 33", 1000);
+    row(b"0 2 0 40 7", 1000);
+    row(b"1 5 2 0 1 2", 1000);
+    row(b"1 5 2 0", 1000);
 }

@@ -1,6 +1,7 @@
 // How a row is run and its answer printed. Each plan room holds nines before it is lent.
 use libc::STDOUT_FILENO;
 use search::Answer;
+use sheet::Refusal;
 use typed::Reading;
 
 fn number(n: u64) {
@@ -22,7 +23,19 @@ fn tell_room(room: &[u8]) {
     io::write_all(STDOUT_FILENO, b"\n");
 }
 
-// `least COST HELD OPENED`, `none OPENED`, `spent OPENED` or `refused CODE PLACE`.
+// The numbers of a refusal: `refused CODE PLACE`, for a width `refused 19 PLACE RULE`.
+fn tell_refusal(kind: Refusal, place: usize) {
+    let mut numbers = [0u64; 4];
+    let count = sheet::numbers_of(kind, place, &mut numbers);
+    io::write_all(STDOUT_FILENO, b"refused");
+    number(numbers[0]);
+    number(numbers[1]);
+    if count == 3 {
+        number(numbers[2]);
+    }
+}
+
+// `least COST HELD OPENED`, `none OPENED`, `spent OPENED` or a refusal.
 fn tell_answer(answer: Answer) {
     match answer {
         Answer::Least(cost, held, opened) => {
@@ -40,9 +53,7 @@ fn tell_answer(answer: Answer) {
             number(opened as u64);
         }
         Answer::Refused(kind, place) => {
-            io::write_all(STDOUT_FILENO, b"refused");
-            number(sheet::code_of(kind) as u64);
-            number(place as u64);
+            tell_refusal(kind, place);
         }
     }
 }

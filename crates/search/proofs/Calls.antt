@@ -16,9 +16,10 @@ use Rattle.hall.specs.Ranges.{SheetOf}
 use Rattle.hall.specs.Reading.{Read, bad, got, decode}
 use Rattle.hall.specs.Answer.{within, answerRead, answer, numbers, roomAfter}
 use Rattle.hall.proofs.Reasons.{decoded}
+use Rattle.hall.proofs.Refusals.{code-large}
 use Rattle.sheet.specs.Coded.{hallOf, Laid}
 use Rattle.sheet.specs.Contract as sheet-says
-use Rattle.sheet.specs.Contract.{refusalCode, numbersRead, Holds, ArraysAfter, Decodes}
+use Rattle.sheet.specs.Contract.{faultOf, numbersAt, numbersRead, Holds, ArraysAfter, Decodes}
 use Rattle.sheet.specs.declared.Refusal.{Refusal}
 use Rattle.sheet.specs.declared.Sheet.{Sheet}
 use Rattle.sheet.specs.declared.Sheet.the-variants as sheet
@@ -36,10 +37,10 @@ module _ (ws : List ℤ) (costs codes starts costs′ codes′ starts′ : List 
   unfolding answer
   call-refused budget kind place e = go (decode (length before) ws) refl (sym (ap sheet-says.numbersOf e) ∙ d .says)
     where
-      go : (x : Read Hall) → decode (length before) ws ≡ x → refusalCode kind ∷ place ∷ [] ≡ numbersRead x → Finds ws budget before (Refused kind place) before
+      go : (x : Read Hall) → decode (length before) ws ≡ x → numbersAt kind place ≡ numbersRead x → Finds ws budget before (Refused kind place) before
       go (bad f i) u q = let a : answer ws budget (length before) ≡ answerRead budget (bad f i) = ap (answerRead budget) u in
           finds ws budget before (Refused kind place) before (q ∙ sym (ap numbers a)) (sym (ap (λ x. roomAfter x before) a))
-      go (got h j) u q = absurd (let z : _≡_ {A = ℕ} 0 1 = cc in omega arith)
+      go (got h j) u q = absurd (omega (arith, code-large (faultOf kind) place _ q))
 
   -- ── an accepted sheet ──
   record ReadHall (n m : ℕ) : Type 0 where
@@ -55,7 +56,7 @@ module _ (ws : List ℤ) (costs codes starts costs′ codes′ starts′ : List 
   read-hall n m e = go (decode (length before) ws) refl (sym (ap sheet-says.numbersOf e) ∙ d .says) (d .arrays)
     where
       go : (x : Read Hall) → decode (length before) ws ≡ x → 0 ∷ n ∷ m ∷ [] ≡ numbersRead x → ArraysAfter x costs codes starts costs′ codes′ starts′ → ReadHall n m
-      go (bad f i) u q a = absurd (let z : _≡_ {A = ℕ} 0 1 = cc in omega arith)
+      go (bad f i) u q a = absurd (omega (arith, code-large f i _ (sym q)))
       go (got h j) u q a = record { whole = h; place = j; is = u; devices = cc; count = cc; sheet-of = decoded ws (length before) h j u; holds = a }
 
 module _ (ws : List ℤ) (costs codes starts costs′ codes′ starts′ : List ℕ) (before : List ℕ) (s : Sheet) (d : Decodes ws (length before) costs codes starts s costs′ codes′ starts′)

@@ -12,15 +12,14 @@ use lib.IntN.{ℤ}
 use Rattle.lists.proofs.InFront.{front-stands}
 use Rattle.hall.specs.Hall.{Hall}
 use Rattle.hall.specs.Ranges.{words, SheetOf}
-use Rattle.hall.specs.Reading.{faultCode}
 use Rattle.hall.specs.Answer as hall
 use Rattle.hall.specs.Answer.{answer, numbers, roomAfter}
 use Rattle.hall.specs.Demands.{Answered}
-use Rattle.hall.proofs.Answers.{answered, code-large}
+use Rattle.hall.proofs.Refusals.{code-large, refusal-injective}
+use Rattle.hall.proofs.Answers.{answered}
 use Rattle.sheet.specs.Check.{kindOf}
-use Rattle.sheet.specs.Contract.{faultOf, refusalCode}
-use Rattle.sheet.proofs.Faults.{fault-kind}
-use Rattle.sheet.proofs.Only.{code-injective}
+use Rattle.sheet.specs.Contract.{faultOf}
+use Rattle.sheet.proofs.Faults.{fault-kind, kind-fault}
 use Rattle.search.specs.declared.Answer.{Answer}
 use Rattle.search.specs.declared.Answer.the-variants.{Least, None, Spent, Refused}
 use Rattle.search.specs.Contract.{numbersOf, answerOf, devicesOn, Finds}
@@ -36,22 +35,22 @@ pub match : (r : Answer) (a : hall.Answer) → numbersOf r ≡ numbers a → Mat
 match (Least c k o) (hall.least c′ k′ o′ p) e = let x : c ≡ c′ = cc in let y : k ≡ k′ = cc in let z : o ≡ o′ = cc in rw (x, y, z)
 match (Least c k o) (hall.none o′) e = absurd (let z : _≡_ {A = ℕ} 0 1 = cc in omega arith)
 match (Least c k o) (hall.spent o′) e = absurd (let z : _≡_ {A = ℕ} 0 2 = cc in omega arith)
-match (Least c k o) (hall.refused f i) e = absurd (let z : 0 ≡ faultCode f = cc in omega (arith, code-large f))
+match (Least c k o) (hall.refused f i) e = absurd (omega (arith, code-large f i _ (sym e)))
 match (None o) (hall.least c k o′ p) e = absurd (let z : _≡_ {A = ℕ} 1 0 = cc in omega arith)
 match (None o) (hall.none o′) e = let x : o ≡ o′ = cc in rw x
 match (None o) (hall.spent o′) e = absurd (let z : _≡_ {A = ℕ} 1 2 = cc in omega arith)
-match (None o) (hall.refused f i) e = absurd (let z : 1 ≡ faultCode f = cc in omega (arith, code-large f))
+match (None o) (hall.refused f i) e = absurd (omega (arith, code-large f i _ (sym e)))
 match (Spent o) (hall.least c k o′ p) e = absurd (let z : _≡_ {A = ℕ} 2 0 = cc in omega arith)
 match (Spent o) (hall.none o′) e = absurd (let z : _≡_ {A = ℕ} 2 1 = cc in omega arith)
 match (Spent o) (hall.spent o′) e = let x : o ≡ o′ = cc in rw x
-match (Spent o) (hall.refused f i) e = absurd (let z : 2 ≡ faultCode f = cc in omega (arith, code-large f))
-match (Refused k i) (hall.least c h o p) e = absurd (let z : refusalCode k ≡ 0 = cc in omega (arith, code-large (faultOf k)))
-match (Refused k i) (hall.none o) e = absurd (let z : refusalCode k ≡ 1 = cc in omega (arith, code-large (faultOf k)))
-match (Refused k i) (hall.spent o) e = absurd (let z : refusalCode k ≡ 2 = cc in omega (arith, code-large (faultOf k)))
+match (Spent o) (hall.refused f i) e = absurd (omega (arith, code-large f i _ (sym e)))
+match (Refused k i) (hall.least c h o p) e = absurd (omega (arith, code-large (faultOf k) i _ e))
+match (Refused k i) (hall.none o) e = absurd (omega (arith, code-large (faultOf k) i _ e))
+match (Refused k i) (hall.spent o) e = absurd (omega (arith, code-large (faultOf k) i _ e))
 match (Refused k i) (hall.refused f j) e =
-    let x : refusalCode k ≡ faultCode f = cc in
-    let y = code-injective k (kindOf f) (x ∙ sym (ap faultCode (fault-kind f))) in
-    let z : i ≡ j = cc in
+    let x = refusal-injective (faultOf k) f i j e in
+    let y : k ≡ kindOf f = sym (kind-fault k) ∙ ap kindOf (x .0) in
+    let z = x .1 in
     rw (y, z)
 
 -- ── the plan in the room ──

@@ -11,16 +11,16 @@ use Rattle.hall.specs.Due.{size}
 use Rattle.hall.specs.Answer as hall
 use Rattle.hall.specs.Answer.{answer, numbers, roomAfter}
 use Rattle.hall.specs.Demands.{Answered}
-use Rattle.sheet.specs.Contract.{faultOf, refusalCode}
+use Rattle.sheet.specs.Contract.{faultOf, numbersAt}
 use Rattle.search.specs.declared.Answer.{Answer}
 use Rattle.search.specs.declared.Answer.the-variants.{Least, None, Spent, Refused}
 
--- "Code" and "Returned" of the table, for each case of the answer
+-- "Code" and "Returned" of the table, for each case of the answer; of a refusal as the sheet's reader tells them
 abbrev pub numbersOf : Answer → List ℕ
 numbersOf (Least cost held opened) = 0 ∷ cost ∷ held ∷ opened ∷ []
 numbersOf (None opened) = 1 ∷ opened ∷ []
 numbersOf (Spent opened) = 2 ∷ opened ∷ []
-numbersOf (Refused kind place) = refusalCode kind ∷ place ∷ []
+numbersOf (Refused kind place) = numbersAt kind place
 
 -- an answer as the definitions have it, with the plan that stands in the plan room
 abbrev pub answerOf : Answer → Plan → hall.Answer

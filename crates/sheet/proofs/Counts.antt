@@ -1,8 +1,9 @@
 -- Counts and rules of a sheet: from what was told of their words to what their readers give.
 --
--- In order: a count, as `count_at` makes it (`count-is`, `count-outside`, `count-missing`) and as its callers use it (`CountBad`,
--- `CountGot`); a rule, by its width's count (`rule-bad`, `rule-on`); a run of rules, by the step of each (`StepBad`, `step-bad`,
--- `step-on`). Assumes nothing.
+-- In order: a count, as `count_at` makes it (`count-is`, `count-outside`, `count-missing`) and as its callers use it (`Refuses`,
+-- `count-bad`; `Counted`, `count-got`); a rule, by its width's count (`rule-bad`, `rule-on`); a part of the sheet, by its step
+-- (`step-refuses`, `step-gives`); a run of rules, by the step of each (`RulesLeft`, `rules-start`, `rules-bad`, `rules-on`, `rules-done`).
+-- Assumes nothing.
 use mathlib.Core.Path.{_≡_, refl, sym, _∙_, ap}
 use mathlib.Core.Bool.{Bool, true, false}
 use mathlib.Core.List.{List}
@@ -13,10 +14,11 @@ use lib.ListN.{length, getElem?}
 use lib.IntN.{ℤ, pos, negsuc}
 use lib.Dec.{leb}
 use borrow.Author.Tests.{leb-true}
-use Rattle.hall.specs.Reading.{Fault, badCount, Read, bad, got, then, asRead, atWord, word, onlyIf, upTo, times, entry, rule}
+use Rattle.hall.specs.Reading.{Fault, badWidth, Read, bad, got, then, asRead, atWord, word, onlyIf, upTo, times, entry, rule, allRules}
 use Rattle.hall.proofs.Reading.{reads-on}
 use Rattle.sheet.specs.Word.{itemBy, itemOf}
 use Rattle.sheet.specs.Check.{kindOf, countOf, stepOf}
+use Rattle.sheet.specs.Contract.{faultOf}
 use Rattle.sheet.specs.declared.word.Item.{Item}
 use Rattle.sheet.specs.declared.word.Item.the-variants as item
 use Rattle.sheet.specs.declared.check.Count.{Count}
@@ -24,28 +26,29 @@ use Rattle.sheet.specs.declared.check.Count.the-variants as count
 use Rattle.sheet.specs.declared.check.Step.{Step}
 use Rattle.sheet.specs.declared.check.Step.the-variants as step
 use Rattle.sheet.specs.declared.Refusal.{Refusal}
-use Rattle.sheet.specs.declared.Refusal.the-variants.{TooShort, BadCount}
+use Rattle.sheet.specs.declared.Refusal.the-variants.{TooShort}
 use Rattle.sheet.proofs.Items.{alike-same, inside, told-missing, told-outside}
-use Rattle.sheet.proofs.Runs.{run-bad, run-on}
+use Rattle.sheet.proofs.Faults.{kind-fault}
+use Rattle.sheet.proofs.Runs.{run-bad, run-on, run-done}
 
 -- ── a count that is made ──
-module _ (ws : List ℤ) (i most : ℕ) (told : Item) (e : told ≡ itemOf (upTo most) (getElem? ws i)) where
-  pub count-is : (v : ℕ) → told ≡ item.Is v → count.Is v ≡ countOf (word badCount (upTo most) ws i)
+module _ (ws : List ℤ) (i most : ℕ) (kind : Refusal) (told : Item) (e : told ≡ itemOf (upTo most) (getElem? ws i)) where
+  pub count-is : (v : ℕ) → told ≡ item.Is v → count.Is v ≡ countOf (word (faultOf kind) (upTo most) ws i)
   count-is v u = go (getElem? ws i) (sym e ∙ u)
     where
-      by : (x : Option ℕ) → itemBy x ≡ item.Is v → count.Is v ≡ countOf (asRead badCount i x)
+      by : (x : Option ℕ) → itemBy x ≡ item.Is v → count.Is v ≡ countOf (asRead (faultOf kind) i x)
       by none e = absurd (let z : _≡_ {A = ℕ} 0 1 = cc in omega arith)
       by (some n) e = let z : v ≡ n = cc in rw z
 
-      go : (o : Option ℤ) → itemOf (upTo most) o ≡ item.Is v → count.Is v ≡ countOf (atWord badCount (upTo most) ws i o)
+      go : (o : Option ℤ) → itemOf (upTo most) o ≡ item.Is v → count.Is v ≡ countOf (atWord (faultOf kind) (upTo most) ws i o)
       go none e = absurd (let z : _≡_ {A = ℕ} 0 1 = cc in omega arith)
       go (some w) e = by (upTo most w) e
 
-  pub count-outside : told ≡ item.Outside → count.Bad BadCount i ≡ countOf (word badCount (upTo most) ws i)
-  count-outside u = rw (told-outside badCount (upTo most) (upTo most) (alike-same (upTo most)) ws i told e u)
+  pub count-outside : told ≡ item.Outside → count.Bad kind i ≡ countOf (word (faultOf kind) (upTo most) ws i)
+  count-outside u = rw (told-outside (faultOf kind) (upTo most) (upTo most) (alike-same (upTo most)) ws i told e u, kind-fault kind)
 
-  pub count-missing : told ≡ item.Missing → count.Bad TooShort (length ws) ≡ countOf (word badCount (upTo most) ws i)
-  count-missing u = rw (told-missing badCount (upTo most) (upTo most) (alike-same (upTo most)) ws i told e u)
+  pub count-missing : told ≡ item.Missing → count.Bad TooShort (length ws) ≡ countOf (word (faultOf kind) (upTo most) ws i)
+  count-missing u = rw (told-missing (faultOf kind) (upTo most) (upTo most) (alike-same (upTo most)) ws i told e u)
 
 -- ── a count that is used ──
 -- what the reader gave where the count is bad
@@ -59,15 +62,15 @@ count-bad (bad f i) c kind place e u = record { fault = f; is = let z : i ≡ pl
 count-bad (got n j) c kind place e u = absurd (let z : _≡_ {A = ℕ} 0 1 = cc in omega arith)
 
 -- what it gave where the count is there
-pub record Counted (ws : List ℤ) (i most v : ℕ) : Type 0 where
-  pub is : word badCount (upTo most) ws i ≡ got v (i + 1)
+pub record Counted (f : Fault) (ws : List ℤ) (i most v : ℕ) : Type 0 where
+  pub is : word f (upTo most) ws i ≡ got v (i + 1)
   pub small : v ≤ most
   pub here : i < length ws
 
-pub count-got : (ws : List ℤ) (i most : ℕ) (c : Count) (v : ℕ) → c ≡ countOf (word badCount (upTo most) ws i) → c ≡ count.Is v → Counted ws i most v
-count-got ws i most c v e u = go (getElem? ws i) refl (sym e ∙ u)
+pub count-got : (f : Fault) (ws : List ℤ) (i most : ℕ) (c : Count) (v : ℕ) → c ≡ countOf (word f (upTo most) ws i) → c ≡ count.Is v → Counted f ws i most v
+count-got f ws i most c v e u = go (getElem? ws i) refl (sym e ∙ u)
   where
-    by : (w : ℤ) (x : Option ℕ) → getElem? ws i ≡ some w → upTo most w ≡ x → countOf (asRead badCount i x) ≡ count.Is v → Counted ws i most v
+    by : (w : ℤ) (x : Option ℕ) → getElem? ws i ≡ some w → upTo most w ≡ x → countOf (asRead f i x) ≡ count.Is v → Counted f ws i most v
     by w none t y e = absurd (let z : _≡_ {A = ℕ} 0 1 = cc in omega arith)
     by w (some n) t y e =
         let z : n ≡ v = cc in
@@ -81,28 +84,28 @@ count-got ws i most c v e u = go (getElem? ws i) refl (sym e ∙ u)
             on true q y = let w : k ≡ n = cc in omega (arith, leb-true k most q)
             on false q y = absurd (let z : _≡_ {A = ℕ} 0 1 = cc in omega arith)
 
-    go : (o : Option ℤ) → getElem? ws i ≡ o → countOf (atWord badCount (upTo most) ws i o) ≡ count.Is v → Counted ws i most v
+    go : (o : Option ℤ) → getElem? ws i ≡ o → countOf (atWord f (upTo most) ws i o) ≡ count.Is v → Counted f ws i most v
     go none t e = absurd (let z : _≡_ {A = ℕ} 0 1 = cc in omega arith)
     go (some w) t e = by w (upTo most w) t refl e
 
 -- a count that is there is small, and the place behind it is a number of 64 bits
-pub count-small : (ws : List ℤ) (i most : ℕ) (c : Count) (v : ℕ) → c ≡ countOf (word badCount (upTo most) ws i) → c ≡ count.Is v → v ≤ most
-count-small ws i most c v e u = count-got ws i most c v e u .small
+pub count-small : (f : Fault) (ws : List ℤ) (i most : ℕ) (c : Count) (v : ℕ) → c ≡ countOf (word f (upTo most) ws i) → c ≡ count.Is v → v ≤ most
+count-small f ws i most c v e u = count-got f ws i most c v e u .small
 
-pub count-next : (ws : List ℤ) (i most : ℕ) (c : Count) (v : ℕ) → c ≡ countOf (word badCount (upTo most) ws i) → c ≡ count.Is v → length ws ≤ 16384 → i + 1 < 18446744073709551616
-count-next ws i most c v e u l = let h = count-got ws i most c v e u .here in omega arith
+pub count-next : (f : Fault) (ws : List ℤ) (i most : ℕ) (c : Count) (v : ℕ) → c ≡ countOf (word f (upTo most) ws i) → c ≡ count.Is v → length ws ≤ 16384 → i + 1 < 18446744073709551616
+count-next f ws i most c v e u l = let h = count-got f ws i most c v e u .here in omega arith
 
 -- ── a rule ──
-module _ (ws : List ℤ) (i n : ℕ) (c : Count) (e : c ≡ countOf (word badCount (upTo 32) ws i)) where
-  pub rule-bad : (kind : Refusal) (place : ℕ) → c ≡ count.Bad kind place → step.Bad kind place ≡ stepOf (rule n ws i)
+module _ (ws : List ℤ) (i n number : ℕ) (c : Count) (e : c ≡ countOf (word (badWidth number) (upTo 32) ws i)) where
+  pub rule-bad : (kind : Refusal) (place : ℕ) → c ≡ count.Bad kind place → step.Bad kind place ≡ stepOf (rule n number ws i)
   unfolding rule
   rule-bad kind place u =
-      let b = count-bad (word badCount (upTo 32) ws i) c kind place e u in
-      ap (λ (k : Refusal). step.Bad k place) (b .same) ∙ sym (ap (λ (x : Read ℕ). stepOf (then x (λ w. times w (entry n)) ws)) (b .is))
+      let b = count-bad (word (badWidth number) (upTo 32) ws i) c kind place e u in
+      ap (λ (k : Refusal). step.Bad k place) (b .same) ∙ sym (ap (λ (x : Read ℕ). stepOf (then x (λ w. times w (λ left. entry n)) ws)) (b .is))
 
-  pub rule-on : (v : ℕ) → c ≡ count.Is v → (s : Step) → s ≡ stepOf (times v (entry n) ws (i + 1)) → s ≡ stepOf (rule n ws i)
+  pub rule-on : (v : ℕ) → c ≡ count.Is v → (s : Step) → s ≡ stepOf (times v (λ left. entry n) ws (i + 1)) → s ≡ stepOf (rule n number ws i)
   unfolding rule
-  rule-on v u s t = t ∙ sym (ap stepOf (reads-on (word badCount (upTo 32)) (λ w. times w (entry n)) ws i (count-got ws i 32 c v e u .is)))
+  rule-on v u s t = t ∙ sym (ap stepOf (reads-on (word (badWidth number) (upTo 32)) (λ w. times w (λ left. entry n)) ws i (count-got (badWidth number) ws i 32 c v e u .is)))
 
 -- ── a part of the sheet, by its step ──
 pub step-refuses : {A : Type 0} (r : Read A) (s : Step) (kind : Refusal) (place : ℕ) → s ≡ stepOf r → s ≡ step.Bad kind place → Refuses r kind place
@@ -118,11 +121,27 @@ step-gives (bad f i) s j e u = absurd (let z : _≡_ {A = ℕ} 0 1 = cc in omega
 step-gives (got a k) s j e u = record { value = a; is = let z : k ≡ j = cc in rw z }
 
 -- ── a run of rules ──
-module _ (n : ℕ) (ws : List ℤ) (place left : ℕ) (whole : Step) (inv : stepOf (times left (rule n) ws place) ≡ whole) (more : left ≡ 0 → ⊥) (s : Step) (e : s ≡ stepOf (rule n ws place)) where
-  pub rules-bad : (kind : Refusal) (wrong : ℕ) → s ≡ step.Bad kind wrong → step.Bad kind wrong ≡ whole
-  rules-bad kind wrong u =
-      let b = step-refuses (rule n ws place) s kind wrong e u in
-      rw (b .same) (run-bad (rule n) ws place left whole inv more (b .fault) wrong (b .is))
+-- of m rules from `at` on so many are left, from `place` on; they answer what all of them answer
+pub record RulesLeft (n m : ℕ) (ws : List ℤ) (at place left : ℕ) : Type 0 where
+  pub few : left ≤ m
+  pub answers : stepOf (times left (λ k. rule n (m - k)) ws place) ≡ stepOf (allRules n m ws at)
 
-  pub rules-on : (next : ℕ) → s ≡ step.Next next → stepOf (times (left - 1) (rule n) ws next) ≡ whole
-  rules-on next u = let g = step-gives (rule n ws place) s next e u in run-on (rule n) ws place left whole inv more (g .value) next (g .is)
+pub rules-start : (n m : ℕ) (ws : List ℤ) (at : ℕ) → RulesLeft n m ws at at m
+unfolding allRules
+rules-start n m ws at = record { few = omega arith; answers = refl }
+
+module _ {n m : ℕ} {ws : List ℤ} {at place left : ℕ} (p : RulesLeft n m ws at place left) where
+  pub rules-done : left ≡ 0 → step.Next place ≡ stepOf (allRules n m ws at)
+  rules-done = run-done (λ k. rule n (m - k)) ws place left _ (p .answers)
+
+  module _ (more : left ≡ 0 → ⊥) (s : Step) (e : s ≡ stepOf (rule n (m - (left - 1)) ws place)) where
+    pub rules-bad : (kind : Refusal) (wrong : ℕ) → s ≡ step.Bad kind wrong → step.Bad kind wrong ≡ stepOf (allRules n m ws at)
+    rules-bad kind wrong u =
+        let b = step-refuses (rule n (m - (left - 1)) ws place) s kind wrong e u in
+        rw (b .same) (run-bad (λ k. rule n (m - k)) ws place left _ (p .answers) more (b .fault) wrong (b .is))
+
+    pub rules-on : (next : ℕ) → s ≡ step.Next next → RulesLeft n m ws at next (left - 1)
+    rules-on next u =
+        let g = step-gives (rule n (m - (left - 1)) ws place) s next e u in
+        let few = p .few in
+        record { few = omega arith; answers = run-on (λ k. rule n (m - k)) ws place left _ (p .answers) more (g .value) next (g .is) }

@@ -1,50 +1,33 @@
--- The contracts leave no choice: equal numbers, equal answers (`code-injective`, `numbers-injective`); two results that `read`'s
--- contract allows are equal, the arrays included (`decodes-only`). Assumes nothing.
-use mathlib.Core.Path.{_≡_, refl, sym, _∙_, ap}
+-- The contracts leave no choice: equal numbers, equal refusals and answers (`refusal-only`, `numbers-injective`); two results that
+-- the contract of `numbers_of` or of `read` allows are equal, the arrays included (`tells-only`, `decodes-only`). Assumes nothing.
+use mathlib.Core.Path.{_≡_, sym, _∙_, ap}
 use mathlib.Core.List.{List}
-use Prim.Native.Nat.{ℕ, zero, suc, _-_}
+use Prim.Native.Nat.{ℕ}
 use native.Mathlib.Omega.{arith}
 use lib.IntN.{ℤ}
 use Rattle.hall.specs.Hall.{Hall}
 use Rattle.hall.specs.Reading.{Read, bad, got, decode}
-use Rattle.sheet.specs.Contract.{refusalCode, numbersOf, ArraysAfter, Decodes}
+use Rattle.hall.proofs.Refusals.{code-large, refusal-injective}
+use Rattle.sheet.specs.Check.{kindOf}
+use Rattle.sheet.specs.Contract.{faultOf, numbersAt, Tells, numbersOf, ArraysAfter, Decodes}
 use Rattle.sheet.specs.declared.Refusal.{Refusal}
-use Rattle.sheet.specs.declared.Refusal.the-variants.{TooShort, BadCount, BadCost, BadEntry, ExtraWords, SmallRoom, TooLong}
 use Rattle.sheet.specs.declared.Sheet.{Sheet}
 use Rattle.sheet.specs.declared.Sheet.the-variants as sheet
+use Rattle.sheet.proofs.Faults.{kind-fault}
 
--- the kind of a code, counted from 11
-kindAt : ℕ → Refusal
-kindAt zero = TooShort
-kindAt (suc zero) = BadCount
-kindAt (suc (suc zero)) = BadCost
-kindAt (suc (suc (suc zero))) = BadEntry
-kindAt (suc (suc (suc (suc zero)))) = ExtraWords
-kindAt (suc (suc (suc (suc (suc zero))))) = SmallRoom
-kindAt (suc (suc (suc (suc (suc (suc k)))))) = TooLong
+pub refusal-only : (k l : Refusal) (p q : ℕ) → numbersAt k p ≡ numbersAt l q → (k ≡ l) × (p ≡ q)
+refusal-only k l p q e =
+    let x = refusal-injective (faultOf k) (faultOf l) p q e in
+    (sym (kind-fault k) ∙ ap kindOf (x .0) ∙ kind-fault l, x .1)
 
-kind-back : (k : Refusal) → kindAt (refusalCode k - 11) ≡ k
-unfolding kindAt
-kind-back TooShort = refl
-kind-back BadCount = refl
-kind-back BadCost = refl
-kind-back BadEntry = refl
-kind-back ExtraWords = refl
-kind-back SmallRoom = refl
-kind-back TooLong = refl
-
-pub code-injective : (k l : Refusal) → refusalCode k ≡ refusalCode l → k ≡ l
-code-injective k l e = sym (kind-back k) ∙ ap (λ (c : ℕ). kindAt (c - 11)) e ∙ kind-back l
+pub tells-only : (told before : List ℕ) (r r′ : ℕ) (after after′ : List ℕ) → Tells told before r after → Tells told before r′ after′ → (r ≡ r′) × (after ≡ after′)
+tells-only told before r r′ after after′ h k = (h .says ∙ sym (k .says), h .room ∙ sym (k .room))
 
 pub numbers-injective : (r s : Sheet) → numbersOf r ≡ numbersOf s → r ≡ s
 numbers-injective (sheet.Hall n m) (sheet.Hall n′ m′) e = let a : n ≡ n′ = cc in let b : m ≡ m′ = cc in rw (a, b)
-numbers-injective (sheet.Hall n m) (sheet.Refused k p) e = absurd (let z : _≡_ {A = ℕ} 0 1 = cc in omega arith)
-numbers-injective (sheet.Refused k p) (sheet.Hall n m) e = absurd (let z : _≡_ {A = ℕ} 0 1 = cc in omega arith)
-numbers-injective (sheet.Refused k p) (sheet.Refused l q) e =
-    let c : refusalCode k ≡ refusalCode l = cc in
-    let a = code-injective k l c in
-    let b : p ≡ q = cc in
-    rw (a, b)
+numbers-injective (sheet.Hall n m) (sheet.Refused k p) e = absurd (omega (arith, code-large (faultOf k) p _ (sym e)))
+numbers-injective (sheet.Refused k p) (sheet.Hall n m) e = absurd (omega (arith, code-large (faultOf k) p _ e))
+numbers-injective (sheet.Refused k p) (sheet.Refused l q) e = let x = refusal-only k l p q e in rw (x .0, x .1)
 
 module _ (ws : List ℤ) (room : ℕ) (costs codes starts : List ℕ) where
   arrays-only : (x : Read Hall) (a b c a′ b′ c′ : List ℕ) → ArraysAfter x costs codes starts a b c → ArraysAfter x costs codes starts a′ b′ c′ → (a ≡ a′) × (b ≡ b′) × (c ≡ c′)

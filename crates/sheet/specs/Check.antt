@@ -5,9 +5,9 @@
 use Prim.Native.Nat.{ℕ}
 use lib.ListN.{length}
 use Rattle.hall.specs.Hall.{Hall}
-use Rattle.hall.specs.Reading.{Fault, tooShort, badCount, badCost, badEntry, extraWords, smallRoom, tooLong, Read, bad, got}
+use Rattle.hall.specs.Reading.{Fault, tooShort, badDeviceCount, badCost, badEntry, extraWords, smallRoom, tooLong, badRuleCount, badWidth, Read, bad, got}
 use Rattle.sheet.specs.declared.Refusal.{Refusal}
-use Rattle.sheet.specs.declared.Refusal.the-variants.{TooShort, BadCount, BadCost, BadEntry, ExtraWords, SmallRoom, TooLong}
+use Rattle.sheet.specs.declared.Refusal.the-variants.{TooShort, BadDeviceCount, BadCost, BadEntry, ExtraWords, SmallRoom, TooLong, BadRuleCount, BadWidth}
 use Rattle.sheet.specs.declared.Sheet.{Sheet}
 use Rattle.sheet.specs.declared.Sheet.the-variants as sheet
 use Rattle.sheet.specs.declared.check.Count.{Count}
@@ -17,12 +17,14 @@ use Rattle.sheet.specs.declared.check.Step.the-variants as step
 
 abbrev pub kindOf : Fault → Refusal
 kindOf tooShort = TooShort
-kindOf badCount = BadCount
+kindOf badDeviceCount = BadDeviceCount
 kindOf badCost = BadCost
 kindOf badEntry = BadEntry
 kindOf extraWords = ExtraWords
 kindOf smallRoom = SmallRoom
 kindOf tooLong = TooLong
+kindOf badRuleCount = BadRuleCount
+kindOf (badWidth rule) = BadWidth rule
 
 abbrev pub countOf : Read ℕ → Count
 countOf (bad f i) = count.Bad (kindOf f) i

@@ -1,8 +1,10 @@
 // The left-to-right check: 01, "each word checked as it is read, so the first fault decides; then 15; then 16". It writes nothing.
+// Which count was wrong, and of which rule: 02, request 1.
 ghost use mathlib.Core.Path.{_≡_};
 ghost use Prim.Native.Nat.{_≤_};
-ghost use Rattle.hall.specs.Reading.{badCount, upTo, word, times, cost, entry, rule, decode};
+ghost use Rattle.hall.specs.Reading.{upTo, word, times, cost, entry, rule, allRules, decode};
 ghost use Rattle.sheet.specs.Check.{countOf, stepOf, sheetOf};
+ghost use Rattle.sheet.specs.Contract.{faultOf};
 use crate::Refusal;
 use crate::Sheet;
 use crate::word::Item;
@@ -21,20 +23,20 @@ pub(crate) enum Step {
     Bad(Refusal, usize),
 }
 
-// The device count, the rule count or a width.
-fn count_at(words: &[i32], at: usize, most: u32) -> Count
-    ensures { λ r. ⌜ r ≡ countOf (word badCount (upTo most) (now (words .entry)) at) ⌝ }
+// The device count, the rule count or a width, with the kind of refusal where it is outside its range.
+fn count_at(words: &[i32], at: usize, most: u32, kind: Refusal) -> Count
+    ensures { λ r. ⌜ r ≡ countOf (word (faultOf kind) (upTo most) (now (words .entry)) at) ⌝ }
 {
     match number_at(words, at, most) {
         Item::Is(v) => Count::Is(v as usize),
-        Item::Outside => Count::Bad(Refusal::BadCount, at),
+        Item::Outside => Count::Bad(kind, at),
         Item::Missing => Count::Bad(Refusal::TooShort, words.len()),
     }
 }
 
 // The costs of all devices.
 fn check_costs(words: &[i32], at: usize, n: usize) -> Step
-    ensures { λ r. ⌜ r ≡ stepOf (times n cost (now (words .entry)) at) ⌝ }
+    ensures { λ r. ⌜ r ≡ stepOf (times n (λ left. cost) (now (words .entry)) at) ⌝ }
 {
     let mut place = at;
     let mut left = n;
@@ -57,7 +59,7 @@ fn check_costs(words: &[i32], at: usize, n: usize) -> Step
 // The entries of one rule.
 fn check_entries(words: &[i32], at: usize, width: usize, n: u32) -> Step
     requires { ⌜ n ≤ 200 ⌝ }
-    ensures { λ r. ⌜ r ≡ stepOf (times width (entry n) (now (words .entry)) at) ⌝ }
+    ensures { λ r. ⌜ r ≡ stepOf (times width (λ left. entry n) (now (words .entry)) at) ⌝ }
 {
     let mut place = at;
     let mut left = width;
@@ -77,26 +79,27 @@ fn check_entries(words: &[i32], at: usize, width: usize, n: u32) -> Step
     Step::Next(place)
 }
 
-// One rule: its width, then its entries.
-fn check_rule(words: &[i32], at: usize, n: u32) -> Step
+// The rule of this number: its width, then its entries.
+fn check_rule(words: &[i32], at: usize, number: usize, n: u32) -> Step
     requires { ⌜ n ≤ 200 ⌝ }
-    ensures { λ r. ⌜ r ≡ stepOf (rule n (now (words .entry)) at) ⌝ }
+    ensures { λ r. ⌜ r ≡ stepOf (rule n number (now (words .entry)) at) ⌝ }
 {
-    match count_at(words, at, 32) {
+    match count_at(words, at, 32, Refusal::BadWidth(number)) {
         Count::Bad(kind, place) => Step::Bad(kind, place),
         Count::Is(width) => check_entries(words, at + 1, width, n),
     }
 }
 
-// All rules, one after the other.
+// All rules, one after the other, numbered from 1.
 fn check_rules(words: &[i32], at: usize, m: usize, n: u32) -> Step
     requires { ⌜ n ≤ 200 ⌝ }
-    ensures { λ r. ⌜ r ≡ stepOf (times m (rule n) (now (words .entry)) at) ⌝ }
+    ensures { λ r. ⌜ r ≡ stepOf (allRules n m (now (words .entry)) at) ⌝ }
 {
     let mut place = at;
     let mut left = m;
     while left != 0 {
-        match check_rule(words, place, n) {
+        left -= 1;
+        match check_rule(words, place, m - left, n) {
             Step::Bad(kind, wrong) => {
                 return Step::Bad(kind, wrong);
             }
@@ -104,7 +107,6 @@ fn check_rules(words: &[i32], at: usize, m: usize, n: u32) -> Step
                 place = next;
             }
         }
-        left -= 1;
     }
     Step::Next(place)
 }
@@ -116,7 +118,7 @@ pub(crate) fn check(words: &[i32], room: usize) -> Sheet
     if 16384 < words.len() {
         return Sheet::Refused(Refusal::TooLong, 16384);
     }
-    let n = match count_at(words, 0, 200) {
+    let n = match count_at(words, 0, 200, Refusal::BadDeviceCount) {
         Count::Is(v) => v,
         Count::Bad(kind, place) => {
             return Sheet::Refused(kind, place);
@@ -128,7 +130,7 @@ pub(crate) fn check(words: &[i32], room: usize) -> Sheet
             return Sheet::Refused(kind, place);
         }
     };
-    let m = match count_at(words, behind, 2000) {
+    let m = match count_at(words, behind, 2000, Refusal::BadRuleCount) {
         Count::Is(v) => v,
         Count::Bad(kind, place) => {
             return Sheet::Refused(kind, place);

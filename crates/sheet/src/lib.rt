@@ -1,23 +1,28 @@
-// Reads a hall sheet: 01, "The hall sheet" and "The answer sheet of the search", codes 11 to 17.
+// Reads a hall sheet: 01, "The hall sheet" and "The answer sheet of the search"; 02, request 1. Codes 11 to 19.
 //
 // The sheet is checked first, from left to right, and nothing is written (check). A good sheet is then coded into the arrays that
-// the caller lends (coding). One function alone reads a signed word (word); all else is unsigned.
-ghost use mathlib.Core.Path.{_≡_};
-ghost use Rattle.sheet.specs.Contract.{refusalCode, Decodes};
+// the caller lends (coding). One function alone reads a signed word (word); all else is unsigned. The numbers of a refusal: telling.
+ghost use Rattle.sheet.specs.Contract.{numbersAt, Tells, Decodes};
 
 mod check;
 mod coding;
+mod telling;
 mod word;
 
-// The kinds of refusal, in the table's order.
+use telling::tell_place;
+use telling::tell_rule;
+
+// The kinds of refusal, in the order of their codes. A width's has the number of its rule, from 1.
 pub enum Refusal {
     TooShort,
-    BadCount,
+    BadDeviceCount,
     BadCost,
     BadEntry,
     ExtraWords,
     SmallRoom,
     TooLong,
+    BadRuleCount,
+    BadWidth(usize),
 }
 
 // What a sheet is read as: a hall, with its numbers of devices and of rules; or a refusal and its place.
@@ -26,18 +31,21 @@ pub enum Sheet {
     Refused(Refusal, usize),
 }
 
-// The paper's code of a kind.
-pub fn code_of(refusal: Refusal) -> u32
-    ensures { λ r. ⌜ r ≡ refusalCode refusal ⌝ }
+// The paper's numbers of a refusal go to the front of the array: its code, its place and, for a width, the number of its rule. How
+// many they are is returned.
+pub fn numbers_of(refusal: Refusal, place: usize, numbers: &mut [u64; 4]) -> usize
+    ensures { λ r. ⌜ Tells (numbersAt refusal place) (now (numbers .entry)) r (now (numbers .exit)) ⌝ }
 {
     match refusal {
-        Refusal::TooShort => 11,
-        Refusal::BadCount => 12,
-        Refusal::BadCost => 13,
-        Refusal::BadEntry => 14,
-        Refusal::ExtraWords => 15,
-        Refusal::SmallRoom => 16,
-        Refusal::TooLong => 17,
+        Refusal::TooShort => tell_place(11, place, numbers),
+        Refusal::BadDeviceCount => tell_place(12, place, numbers),
+        Refusal::BadCost => tell_place(13, place, numbers),
+        Refusal::BadEntry => tell_place(14, place, numbers),
+        Refusal::ExtraWords => tell_place(15, place, numbers),
+        Refusal::SmallRoom => tell_place(16, place, numbers),
+        Refusal::TooLong => tell_place(17, place, numbers),
+        Refusal::BadRuleCount => tell_place(18, place, numbers),
+        Refusal::BadWidth(rule) => tell_rule(19, place, rule, numbers),
     }
 }
 

@@ -10,11 +10,11 @@ least-plan-requires c κs = search needs
 enum-known-cost : tie.Need-enum-known-cost
 enum-known-cost c = search needs
 
+cast-t18 : tie.Need-cast-t18
+cast-t18 c = search needs
+
 cast-t19 : tie.Need-cast-t19
 cast-t19 c = search needs
-
-cast-t20 : tie.Need-cast-t20
-cast-t20 c = search needs
 
 slice-aggregate-tell : tie.Need-slice-aggregate-tell
 slice-aggregate-tell c = search needs
@@ -25,8 +25,8 @@ tell-requires c κs = search needs
 enum-known-opened : tie.Need-enum-known-opened
 enum-known-opened c = search needs
 
-cast-t26 : tie.Need-cast-t26
-cast-t26 c = search needs
+cast-t25 : tie.Need-cast-t25
+cast-t25 c = search needs
 
 slice-aggregate-tell-2 : tie.Need-slice-aggregate-tell-2
 slice-aggregate-tell-2 c = search needs
@@ -37,8 +37,8 @@ tell-requires-2 c κs = search needs
 enum-known-opened-2 : tie.Need-enum-known-opened-2
 enum-known-opened-2 c = search needs
 
-cast-t32 : tie.Need-cast-t32
-cast-t32 c = search needs
+cast-t31 : tie.Need-cast-t31
+cast-t31 c = search needs
 
 slice-aggregate-tell-3 : tie.Need-slice-aggregate-tell-3
 slice-aggregate-tell-3 c = search needs
@@ -49,17 +49,8 @@ tell-requires-3 c κs = search needs
 enum-known-kind : tie.Need-enum-known-kind
 enum-known-kind c = search needs
 
-code-of-requires : tie.Need-code-of-requires
-code-of-requires c κs = search needs
-
-cast-t39 : tie.Need-cast-t39
-cast-t39 c = search needs
-
-slice-aggregate-tell-4 : tie.Need-slice-aggregate-tell-4
-slice-aggregate-tell-4 c = search needs
-
-tell-requires-4 : tie.Need-tell-requires-4
-tell-requires-4 c κs = search needs
+numbers-of-requires : tie.Need-numbers-of-requires
+numbers-of-requires c κs = search needs
 
 same-length : tie.Need-same-length
 same-length c = search needs
@@ -91,23 +82,20 @@ leastplan-search-spec =
     (tie.spec
     least-plan-requires
     enum-known-cost
+    cast-t18
     cast-t19
-    cast-t20
     slice-aggregate-tell
     tell-requires
     enum-known-opened
-    cast-t26
+    cast-t25
     slice-aggregate-tell-2
     tell-requires-2
     enum-known-opened-2
-    cast-t32
+    cast-t31
     slice-aggregate-tell-3
     tell-requires-3
     enum-known-kind
-    code-of-requires
-    cast-t39
-    slice-aggregate-tell-4
-    tell-requires-4
+    numbers-of-requires
     same-length
     returns
     same-length-2

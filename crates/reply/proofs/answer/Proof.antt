@@ -20,6 +20,12 @@ enum-known-mistake c = search needs
 code-of-requires : tie.Need-code-of-requires
 code-of-requires c κs = search needs
 
+cast-code : tie.Need-cast-code
+cast-code c = search needs
+
+slice-aggregate-put-refused : tie.Need-slice-aggregate-put-refused
+slice-aggregate-put-refused c = search needs
+
 put-refused-requires : tie.Need-put-refused-requires
 put-refused-requires c κs = search needs
 
@@ -62,6 +68,8 @@ answer-spec =
     read-requires
     enum-known-mistake
     code-of-requires
+    cast-code
+    slice-aggregate-put-refused
     put-refused-requires
     enum-known-w
     plan-room-requires

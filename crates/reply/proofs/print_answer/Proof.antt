@@ -1,4 +1,6 @@
 -- `print_answer` meets its contract: for each case its lines fit (Lengths) and are the definition's (Prints). Assumes nothing.
+use native.Mathlib.Omega.{arith}
+use Rattle.sheet.proofs.ToldNumbers.{told-short, told-long}
 use Rattle.reply.proofs.Lengths.{none-fits, spent-fits, least-fits, hold-fits}
 use Rattle.reply.proofs.Prints.{prints-least, prints-none, prints-spent, prints-refused}
 use borrow.Author.Needs.{needs}
@@ -8,11 +10,11 @@ use Rattle.reply.proofs.print_answer.Tie as tie
 enum-known-answer : tie.Need-enum-known-answer
 enum-known-answer c = search needs
 
-cast-t19 : tie.Need-cast-t19
-cast-t19 c = search needs
+cast-t21 : tie.Need-cast-t21
+cast-t21 c = search needs
 
-cast-t20 : tie.Need-cast-t20
-cast-t20 c = search needs
+cast-t22 : tie.Need-cast-t22
+cast-t22 c = search needs
 
 slice-aggregate-put-line : tie.Need-slice-aggregate-put-line
 slice-aggregate-put-line c = search needs
@@ -29,8 +31,8 @@ put-hold-requires c κs = search hold-fits
 enum-known-answer-2 : tie.Need-enum-known-answer-2
 enum-known-answer-2 c = search needs
 
-cast-t29 : tie.Need-cast-t29
-cast-t29 c = search needs
+cast-t31 : tie.Need-cast-t31
+cast-t31 c = search needs
 
 slice-aggregate-put-line-3 : tie.Need-slice-aggregate-put-line-3
 slice-aggregate-put-line-3 c = search needs
@@ -44,8 +46,8 @@ put-line-requires-2 c κs = search none-fits
 enum-known-answer-3 : tie.Need-enum-known-answer-3
 enum-known-answer-3 c = search needs
 
-cast-t36 : tie.Need-cast-t36
-cast-t36 c = search needs
+cast-t38 : tie.Need-cast-t38
+cast-t38 c = search needs
 
 slice-aggregate-put-line-5 : tie.Need-slice-aggregate-put-line-5
 slice-aggregate-put-line-5 c = search needs
@@ -59,11 +61,24 @@ put-line-requires-3 c κs = search spent-fits
 enum-known-answer-4 : tie.Need-enum-known-answer-4
 enum-known-answer-4 c = search needs
 
-code-of-requires : tie.Need-code-of-requires
-code-of-requires c κs = search needs
+numbers-of-requires : tie.Need-numbers-of-requires
+numbers-of-requires c κs = search needs
+
+sub-put-refused : tie.Need-sub-put-refused
+sub-put-refused c = search needs
+
+part-put-refused-start : tie.Need-part-put-refused-start
+part-put-refused-start c = search needs
+
+part-put-refused-end : tie.Need-part-put-refused-end
+part-put-refused-end c =
+    let t = c .before .numbers-of .ensures in
+    let few = t .few in
+    let long = told-long _ _ _ _ t (omega arith) in
+    search needs
 
 put-refused-requires : tie.Need-put-refused-requires
-put-refused-requires c κs = search needs
+put-refused-requires c κs = search (told-short, needs)
 
 returns : tie.Need-returns
 returns c = search prints-least
@@ -82,24 +97,27 @@ print-answer-spec =
     tie.close
     (tie.spec
     enum-known-answer
-    cast-t19
-    cast-t20
+    cast-t21
+    cast-t22
     slice-aggregate-put-line
     slice-aggregate-put-line-2
     put-line-requires
     put-hold-requires
     enum-known-answer-2
-    cast-t29
+    cast-t31
     slice-aggregate-put-line-3
     slice-aggregate-put-line-4
     put-line-requires-2
     enum-known-answer-3
-    cast-t36
+    cast-t38
     slice-aggregate-put-line-5
     slice-aggregate-put-line-6
     put-line-requires-3
     enum-known-answer-4
-    code-of-requires
+    numbers-of-requires
+    sub-put-refused
+    part-put-refused-start
+    part-put-refused-end
     put-refused-requires
     returns
     returns-2

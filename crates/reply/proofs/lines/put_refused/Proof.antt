@@ -1,5 +1,8 @@
 -- `put_refused` meets its contract: its line fits the room (`refused-fits`). Assumes nothing.
-use Rattle.reply.proofs.Lengths.{wider, refused-fits}
+use Prim.Native.Nat.{ℕ, _^_, _<_}
+use native.Mathlib.Omega.{arith}
+use lib.ListN.{getD}
+use Rattle.reply.proofs.Lengths.{refused-fits}
 use borrow.Author.Needs.{needs}
 use Rattle.reply.proofs.lines.put_refused.Statement.{statement}
 use Rattle.reply.proofs.lines.put_refused.Tie as tie
@@ -7,11 +10,11 @@ use Rattle.reply.proofs.lines.put_refused.Tie as tie
 slice-aggregate-put-line : tie.Need-slice-aggregate-put-line
 slice-aggregate-put-line c = search needs
 
-slice-aggregate-put-line-2 : tie.Need-slice-aggregate-put-line-2
-slice-aggregate-put-line-2 c = search needs
-
 put-line-requires : tie.Need-put-line-requires
-put-line-requires c κs = search (refused-fits, wider)
+put-line-requires c κs =
+    let k = c .before .before .before in
+    let small : (i : ℕ) → getD (k .before .args .numbers .now) i 0 < 2 ^ 64 = λ i. omega (arith, k .shared-slice-known .given i) in
+    search (refused-fits, small)
 
 same-length : tie.Need-same-length
 same-length c = search needs
@@ -24,7 +27,6 @@ put-refused-spec =
     tie.close
     (tie.spec
     slice-aggregate-put-line
-    slice-aggregate-put-line-2
     put-line-requires
     same-length
     returns)

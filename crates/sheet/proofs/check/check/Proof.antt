@@ -50,7 +50,7 @@ add-check-rules c = record { fits = search count-next }
 cast-check-rules : tie.Need-cast-check-rules
 cast-check-rules c =
     let k = c .before .before .before .before .before .before .before .before .before .before .before in
-    let few = count-small (c .before .before .before .before .before .before .before .before .before .before .before .before .before .args .words .now) 0 200 (k .count-at .result) _ (k .count-at .ensures) (c .before .before .before .before .before .before .before .before .before .v .given .1) in
+    let few = count-small _ (c .before .before .before .before .before .before .before .before .before .before .before .before .before .args .words .now) 0 200 (k .count-at .result) _ (k .count-at .ensures) (c .before .before .before .before .before .before .before .before .before .v .given .1) in
     search needs
 
 check-rules-requires : tie.Need-check-rules-requires

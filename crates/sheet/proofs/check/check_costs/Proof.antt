@@ -9,7 +9,7 @@ use Rattle.sheet.proofs.check.check_costs.Tie as tie
 
 -- Invariant: the costs that are left answer what all of them answer; each cost that is right leaves the rest of the run (`cost-on`).
 abbrev Inv-loop : tie.InvT-loop
-Inv-loop words at n place₀ left₀ place left = stepOf (times left cost words place) ≡ stepOf (times n cost words at)
+Inv-loop words at n place₀ left₀ place left = stepOf (times left (λ k. cost) words place) ≡ stepOf (times n (λ k. cost) words at)
 
 -- Measure: the costs left.
 abbrev μ-loop : tie.MeasureT-loop

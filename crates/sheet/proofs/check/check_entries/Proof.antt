@@ -10,7 +10,7 @@ use Rattle.sheet.proofs.check.check_entries.Tie as tie
 
 -- Invariant: the entries that are left answer what all of them answer; each entry that is right leaves the rest of the run (`entry-on`).
 abbrev Inv-loop : tie.InvT-loop
-Inv-loop words at width n place₀ left₀ place left = stepOf (times left (entry n) words place) ≡ stepOf (times width (entry n) words at)
+Inv-loop words at width n place₀ left₀ place left = stepOf (times left (λ k. entry n) words place) ≡ stepOf (times width (λ k. entry n) words at)
 
 -- Measure: the entries left.
 abbrev μ-loop : tie.MeasureT-loop
@@ -51,7 +51,7 @@ loop-less : tie.Need-loop-less Inv-loop μ-loop
 loop-less c = search needs
 
 loop-again : tie.Need-loop-again Inv-loop μ-loop
-loop-again c = search entry-on
+loop-again c = search (entry-on (c .before .before .before .before .before .args .n))
 
 returns-3 : tie.Need-returns-3 Inv-loop μ-loop
 returns-3 c = search run-done

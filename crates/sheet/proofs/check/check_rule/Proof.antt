@@ -17,7 +17,7 @@ add-check-entries : tie.Need-add-check-entries
 add-check-entries c =
     let k = c .before .before .before in
     let a = k .before .args in
-    let g = count-got (a .words .now) (a .at) 32 (k .count-at .result) _ (k .count-at .ensures) (c .before .width .given .1) in
+    let g = count-got _ (a .words .now) (a .at) 32 (k .count-at .result) _ (k .count-at .ensures) (c .before .width .given .1) in
     let l = g .here in
     search needs
 

@@ -10,8 +10,8 @@ number-at-requires c κs = search needs
 enum-known-v : tie.Need-enum-known-v
 enum-known-v c = search needs
 
-cast-t7 : tie.Need-cast-t7
-cast-t7 c = search needs
+cast-t8 : tie.Need-cast-t8
+cast-t8 c = search needs
 
 enum-told : tie.Need-enum-told
 enum-told c = search needs
@@ -34,7 +34,7 @@ count-at-spec =
     (tie.spec
     number-at-requires
     enum-known-v
-    cast-t7
+    cast-t8
     enum-told
     enum-told-2
     returns
