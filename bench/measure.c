@@ -9,11 +9,11 @@
 #define _POSIX_C_SOURCE 199309L
 #include "../include/leastplan.h"
 #include "walk.h"
+#include "clock.h"
 
 #include <stdio.h>
 #include <stdlib.h>
 #include <string.h>
-#include <time.h>
 
 typedef void search(const int32_t *, size_t, uint32_t, uint8_t *, size_t, uint64_t[4]);
 
@@ -95,13 +95,6 @@ static void late_sheet(int devices, int rules, int width)
 }
 
 /* ---- measuring */
-
-static double now(void)
-{
-    struct timespec t;
-    clock_gettime(CLOCK_PROCESS_CPUTIME_ID, &t);
-    return (double)t.tv_sec * 1e9 + (double)t.tv_nsec;
-}
 
 struct answer {
     uint8_t room[200];

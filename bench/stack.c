@@ -1,6 +1,6 @@
 /*
- * How much stack leastplan_search takes on the sheet with the deepest walk, and leastplan_answer on the same sheet as text: 200
- * devices, the rule 1, then for each i from 1 to 199 a rule of thirty-one times -i and then i + 1, so that every level is reached
+ * How much stack leastplan_search takes on the sheet with the deepest walk, and leastplan_answer and leastplan_cnf_answer on the same
+ * sheet as text and as a file: 200 devices, the rule 1, then for each i from 1 to 199 a rule of thirty-one times -i and then i + 1, so that every level is reached
  * through the last entry of its rule.
  *
  * The call runs in a thread on a stack that was filled with a pattern; what is no longer the pattern was used. A thread that
@@ -24,8 +24,8 @@ static int32_t words[16384];
 static size_t count;
 static uint8_t room[200];
 static uint64_t numbers[4];
-static char text[60000];
-static size_t length;
+static char text[60000], file[60000];
+static size_t length, file_length;
 static uint8_t out[1024];
 
 static void deepest_sheet(void)
@@ -46,6 +46,17 @@ static void deepest_sheet(void)
         length += (size_t)sprintf(text + length, "%ld ", (long)words[i]);
 }
 
+/* The same rules, behind the counts of a file: the sheet's words from its first rule on, each width left out. */
+static void deepest_file(void)
+{
+    file_length = (size_t)sprintf(file, "p cnf 200 200\n");
+    for (size_t rule = 202; rule < count; rule += 1 + (size_t)words[rule]) {
+        for (int j = 1; j <= words[rule]; j++)
+            file_length += (size_t)sprintf(file + file_length, "%ld ", (long)words[rule + (size_t)j]);
+        file_length += (size_t)sprintf(file + file_length, "0\n");
+    }
+}
+
 static void *nothing(void *unused)
 {
     return unused;
@@ -60,6 +71,12 @@ static void *call(void *unused)
 static void *call_with_text(void *unused)
 {
     leastplan_answer((const uint8_t *)text, length, out);
+    return unused;
+}
+
+static void *call_with_file(void *unused)
+{
+    leastplan_cnf_answer((const uint8_t *)file, file_length, out);
     return unused;
 }
 
@@ -121,15 +138,21 @@ static int fits(size_t size)
 int main(void)
 {
     deepest_sheet();
+    deepest_file();
     size_t thread = used(nothing), all = used(call);
     if (numbers[0] != 0 || numbers[1] != 200 || numbers[2] != 200 || numbers[3] != 201)
         stop("the deepest sheet has another answer");
     printf("the deepest walk, of %llu nodes: %zu bytes of stack (%zu with the thread's own %zu)\n", (unsigned long long)numbers[3], all - thread,
            all, thread);
+    static const char reply[] = "least 200 200 201\nhold 1 2 3 ";
     size_t from_text = used(call_with_text);
-    if (memcmp(out, "least 200 200 201\nhold 1 2 3 ", 28) != 0)
+    if (memcmp(out, reply, sizeof reply - 1) != 0)
         stop("the deepest sheet as text has another answer");
-    printf("from text to printed bytes: %zu bytes of stack\n", from_text - thread);
+    memset(out, 0, sizeof out);
+    size_t from_file = used(call_with_file);
+    if (memcmp(out, reply, sizeof reply - 1) != 0)
+        stop("the deepest sheet as a file has another answer");
+    printf("from text to printed bytes: %zu bytes of stack, from a file: %zu\n", from_text - thread, from_file - thread);
     fflush(stdout);
     size_t size = MOST;
     while (size > 16384 && fits(size / 2))

@@ -23,7 +23,7 @@
 extern "C" {
 #endif
 
-/* The first number of an answer. */
+/* The first number of an answer, of a reading and of a refusal that is printed. */
 enum {
     LEASTPLAN_LEAST = 0,
     LEASTPLAN_NONE = 1,
@@ -36,7 +36,14 @@ enum {
     LEASTPLAN_SMALL_ROOM = 16,
     LEASTPLAN_TOO_LONG = 17,
     LEASTPLAN_BAD_RULE_COUNT = 18,
-    LEASTPLAN_BAD_WIDTH = 19
+    LEASTPLAN_BAD_WIDTH = 19,
+    LEASTPLAN_WRONG_BYTE = 21,
+    LEASTPLAN_BAD_NUMBER = 22,
+    LEASTPLAN_LONG_TEXT = 23,
+    LEASTPLAN_NO_ROOM = 24,
+    LEASTPLAN_NO_HEADER = 31,
+    LEASTPLAN_NOT_CLOSED = 32,
+    LEASTPLAN_EXTRA_TOKEN = 33
 };
 
 /*
@@ -82,6 +89,48 @@ void leastplan_search(const int32_t *words, size_t words_len, uint32_t budget, u
  * with its place in bytes, from 0.
  */
 size_t leastplan_answer(const uint8_t *text, size_t text_len, uint8_t out[1024]);
+
+/*
+ * Reads a DIMACS CNF file, text[0] to text[text_len - 1], into room as a hall sheet: the variables are the devices, each at cost 1,
+ * and the clauses, in their order and with their entries as written, are the rules. leastplan_search accepts the sheet where it is
+ * lent a byte for each device.
+ *
+ * What was read goes to the front of numbers, code first:
+ *
+ *   numbers[0]  meaning                                     numbers[1]               numbers[2]
+ *    0          read                                        the sheet's length       unchanged
+ *   12          the number of variables is outside 0 to     first byte of the token  unchanged
+ *               200
+ *   14          an entry is beyond the number of variables  first byte of the token  unchanged
+ *   18          the number of clauses is outside 0 to       first byte of the token  unchanged
+ *               2,000
+ *   19          a clause has a 33rd entry                   first byte of the token  its clause
+ *   21          a wrong byte in a number, or a minus with   that byte, or where the  unchanged
+ *               no digit after it                           digit should stand
+ *   22          more than 10 digits, or a value that does   first byte of the token  unchanged
+ *               not fit 32 bits
+ *   23          more than 60,000 bytes                      60000                    unchanged
+ *   24          the sheet up to this token needs more       first byte of the token  unchanged
+ *               words than room_len, or than 16,384
+ *   31          something else stands in the place of "p"   first byte of the token  unchanged
+ *               or "cnf"; or the text ends before them, or  or text_len
+ *               before a number of the header
+ *   32          the text ends before the last clause is     text_len                 unchanged
+ *               closed by 0
+ *   33          a number stands behind the last clause      first byte of the token  unchanged
+ *
+ * numbers[3] is unchanged. Places are bytes from 0, clauses are numbered from 1. With code 0 the first numbers[1] words of room are
+ * the sheet, and the rest of room is unchanged. With any other code all of room is unchanged.
+ */
+void leastplan_cnf_read(const uint8_t *text, size_t text_len, int32_t *room, size_t room_len, uint64_t numbers[4]);
+
+/*
+ * Answers a DIMACS CNF file, text[0] to text[text_len - 1], as the program cnfplan does: with 16,384 words of room and a budget
+ * of 1,000,000 trial plans. The bytes that the program prints go to the front of out in the form of leastplan_answer, and how many
+ * they are is returned; CODE is one of the codes of leastplan_cnf_read with its place in bytes, and with 19 the clause stands behind
+ * its place, "refused 19 PLACE CLAUSE".
+ */
+size_t leastplan_cnf_answer(const uint8_t *text, size_t text_len, uint8_t out[1024]);
 
 #ifdef __cplusplus
 }

@@ -31,6 +31,11 @@ void make_memory(void)
     end_of_memory = at + size;
 }
 
+unsigned char *lend(const void *from, size_t bytes)
+{
+    return memcpy(end_of_memory - bytes, from, bytes);
+}
+
 /* ---- a sheet */
 
 static void show(const struct sheet *s, uint32_t budget, const uint64_t *expected, int numbers, const uint64_t *got)
@@ -54,7 +59,7 @@ struct reference_answer compare(const struct sheet *s, uint32_t budget)
     struct reference_answer a = reference(s->word, s->words, budget, s->room);
     uint8_t room[AROUND + ROOM + AROUND], room_expected[sizeof room];
     uint64_t numbers[2 + 4 + 2], numbers_expected[8];
-    int32_t *words = (int32_t *)end_of_memory - s->words;
+    int32_t *words = (int32_t *)(void *)lend(s->word, s->words * sizeof s->word[0]);
 
     for (size_t i = 0; i < sizeof room; i++)
         room[i] = (uint8_t)(0x80 | (draw() >> 56));
@@ -64,7 +69,6 @@ struct reference_answer compare(const struct sheet *s, uint32_t budget)
     memcpy(numbers_expected, numbers, sizeof numbers);
     memcpy(numbers_expected + 2, a.number, (size_t)a.numbers * sizeof a.number[0]);
     memcpy(room_expected + AROUND, a.plan, (size_t)a.devices);
-    memcpy(words, s->word, s->words * sizeof words[0]);
 
     leastplan_search(words, s->words, budget, room + AROUND, s->room, numbers + 2);
 
@@ -95,25 +99,17 @@ static struct reference_answer answer_to(const struct text *t, uint32_t budget)
     return reference(word, r.words, budget, 200);
 }
 
-void compare_text(const struct text *t, uint32_t most)
+void compare_printed(const struct text *t, const struct reference_answer *a, printing_call *call)
 {
     static char expected[4096];
     uint8_t out[1024 + AROUND];
-    struct reference_answer a = answer_to(t, most);
-    if (a.number[0] == 2 && most < BUDGET) {
-        tally.left_out++;
-        return;
-    }
-    size_t bytes = reference_print(&a, expected);
+    size_t bytes = reference_print(a, expected);
     memset(expected + bytes, 0x5a, sizeof expected - bytes);
     memset(out, 0x5a, sizeof out);
-    unsigned char *text = end_of_memory - t->bytes;
-    memcpy(text, t->byte, t->bytes);
+    unsigned char *text = lend(t->byte, t->bytes);
 
-    size_t told = leastplan_answer(text, t->bytes, out);
+    size_t told = call(text, t->bytes, out);
 
-    tally.texts++;
-    tally.by_printed[a.number[0]]++;
     if (told == bytes && memcmp(out, expected, sizeof out) == 0 && memcmp(text, t->byte, t->bytes) == 0)
         tally.passed++;
     else {
@@ -122,4 +118,16 @@ void compare_text(const struct text *t, uint32_t most)
             printf("FAILED: text of %zu bytes: %zu bytes told, expected %zu: %.*sthe text: %.*s\n", t->bytes, told, bytes, (int)bytes, expected,
                    t->bytes < 2000 ? (int)t->bytes : 2000, (const char *)t->byte);
     }
+}
+
+void compare_text(const struct text *t, uint32_t most)
+{
+    struct reference_answer a = answer_to(t, most);
+    if (a.number[0] == 2 && most < BUDGET) {
+        tally.left_out++;
+        return;
+    }
+    tally.texts++;
+    tally.by_printed[a.number[0]]++;
+    compare_printed(t, &a, leastplan_answer);
 }

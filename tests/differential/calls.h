@@ -1,4 +1,4 @@
-/* Calls of the library, each compared with the reference, and what was counted of them. */
+/* Calls of the library, each compared with the reference, and what was counted of them and of those of file_calls.h. */
 #ifndef CALLS_H
 #define CALLS_H
 
@@ -12,12 +12,20 @@ struct tally {
     unsigned long passed, failed;
     unsigned long searches, by_code[20], later_rule, by_number, by_marks;
     unsigned long texts, by_printed[25], left_out;
+    unsigned long readings, by_reading[34], later_clause, beyond_limit, exact_room, room_of_0, read_back;
+    unsigned long files, by_file[34], files_left_out;
 };
 
 extern struct tally tally;
 
 void make_memory(void); /* before the first call */
+unsigned char *lend(const void *from, size_t bytes); /* a copy that ends where readable memory ends, until the next one */
+
 struct reference_answer compare(const struct sheet *s, uint32_t budget);
+
+/* A call from a text to what is printed, compared with the printed answer. */
+typedef size_t printing_call(const uint8_t *text, size_t text_len, uint8_t out[1024]);
+void compare_printed(const struct text *t, const struct reference_answer *a, printing_call *call);
 
 /* A text that spends a budget of `most` nodes, smaller than the program's, is left out: the reference is slow. */
 void compare_text(const struct text *t, uint32_t most);

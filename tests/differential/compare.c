@@ -1,15 +1,19 @@
 /*
- * Compares the library with the reference: on sheets with known answers, document 01's and our own, and on sheets and texts made from
- * a seed.
+ * Compares the library with the reference: on sheets and files with known answers, the documents' and our own, and on sheets, texts and
+ * DIMACS CNF files made from a seed.
  *
  *   compare [SEED [SHEETS]]
  *
  * An accepted sheet is called again with the budget that its walk needs and with one less. Then the sheet is typed as text, sometimes
- * damaged, and what leastplan_answer prints is compared with what the reference reads, finds and prints.
+ * damaged, and what leastplan_answer prints is compared with what the reference reads, finds and prints. Files are a third as many as
+ * sheets; each is read into several rooms, and what leastplan_cnf_answer prints is compared too.
  */
 #include "calls.h"
 #include "draw.h"
+#include "file_calls.h"
+#include "files.h"
 #include "known.h"
+#include "known_files.h"
 
 #include <stdio.h>
 #include <stdlib.h>
@@ -108,6 +112,18 @@ static void compare_all(unsigned long sheets)
     }
 }
 
+static void compare_files(unsigned long files)
+{
+    static struct sheet s;
+    static struct text t;
+    for (unsigned long i = 0; i < files; i++) {
+        if (any_file(&s, &t))
+            compare_with_sheet(&t, &s);
+        compare_rooms(&t);
+        compare_file(&t, t.bytes > 8000 ? 40 : 1000);
+    }
+}
+
 /* Half a million nodes, and more than the program's budget. */
 static void compare_long_walks(void)
 {
@@ -118,24 +134,18 @@ static void compare_long_walks(void)
         text_of(&s, &t);
         compare_text(&t, BUDGET);
     }
+    file_of(&s, &t);
+    compare_file(&t, BUDGET);
 }
 
-int main(int argc, char **argv)
+/* ---- what has to have come up */
+
+static const char *const meaning[34] = {"least", "none", "spent", [11] = "refused 11", "refused 12", "refused 13", "refused 14", "refused 15", "refused 16",
+                                        "refused 17", "refused 18", "refused 19", [21] = "refused 21", "refused 22", "refused 23", "refused 24",
+                                        [31] = "refused 31", "refused 32", "refused 33"};
+
+static void demand_sheets(unsigned long sheets)
 {
-    static const char *const meaning[25] = {"least", "none", "spent", [11] = "refused 11", "refused 12", "refused 13", "refused 14", "refused 15",
-                                            "refused 16", "refused 17", "refused 18", "refused 19", [21] = "refused 21", "refused 22", "refused 23", "refused 24"};
-    uint64_t seed = argc > 1 ? strtoull(argv[1], NULL, 10) : 1;
-    unsigned long sheets = argc > 2 ? strtoul(argv[2], NULL, 10) : 120000;
-
-    draw_from(seed);
-    make_memory();
-    known_sheets();
-    tally.searches = tally.later_rule = tally.by_number = tally.by_marks = 0;
-    memset(tally.by_code, 0, sizeof tally.by_code);
-    compare_all(sheets);
-    compare_long_walks();
-
-    printf("seed %llu, %lu sheets, %lu searches\n", (unsigned long long)seed, sheets, tally.searches);
     demand("sheets", sheets, 100000);
     demand("of them accepted", accepted, (sheets + 2) / 3);
     for (int code = 0; code < 20; code++)
@@ -151,10 +161,59 @@ int main(int argc, char **argv)
     demand("accepted with both positions of a device in a rule", with_both, LEAST_OF_EACH);
     demand("plans of equal cost told apart by the held number", tally.by_number, LEAST_OF_EACH);
     demand("plans of equal cost and number told apart by the marks", tally.by_marks, LEAST_OF_EACH);
+}
+
+static void demand_texts(void)
+{
     printf("%lu texts, %lu left out because the reference takes too long\n", tally.texts, tally.left_out);
     for (int code = 0; code < 25; code++)
         if (meaning[code] && code != 16 && code != 17) /* the program has room for every plan, and 24 comes before 17 */
             demand(meaning[code], tally.by_printed[code], code == 2 ? 1 : LEAST_OF_EACH);
+}
+
+/* A file has no costs and no widths, and its reader leaves nothing of the sheet missing or over. */
+static int of_a_file(int code)
+{
+    return code > 2 && meaning[code] && code != 11 && code != 13 && (code < 15 || code > 17);
+}
+
+static void demand_files(void)
+{
+    printf("%lu readings of files\n", tally.readings);
+    demand("read", tally.by_reading[0], LEAST_OF_EACH);
+    for (int code = 0; code < 34; code++)
+        if (of_a_file(code))
+            demand(meaning[code], tally.by_reading[code], LEAST_OF_EACH);
+    demand("refused 19 of a clause behind the first", tally.later_clause, LEAST_OF_EACH);
+    demand("refused 24 in a room of more than 16,384 words", tally.beyond_limit, LEAST_OF_EACH);
+    demand("read into a room exactly as long as the sheet, and one word shorter", tally.exact_room, LEAST_OF_EACH);
+    demand("read into a room of 0 words", tally.room_of_0, LEAST_OF_EACH);
+    demand("read back as the sheet that the file was made of", tally.read_back, LEAST_OF_EACH);
+    printf("%lu files answered, %lu left out because the reference takes too long\n", tally.files, tally.files_left_out);
+    for (int code = 0; code < 34; code++)
+        if (code <= 2 || of_a_file(code))
+            demand(meaning[code], tally.by_file[code], code == 2 ? 1 : LEAST_OF_EACH);
+}
+
+int main(int argc, char **argv)
+{
+    uint64_t seed = argc > 1 ? strtoull(argv[1], NULL, 10) : 1;
+    unsigned long sheets = argc > 2 ? strtoul(argv[2], NULL, 10) : 120000, passed, failed;
+
+    draw_from(seed);
+    make_memory();
+    known_sheets();
+    known_files();
+    passed = tally.passed, failed = tally.failed;
+    tally = (struct tally){.passed = passed, .failed = failed}; /* what is demanded has to come from the seed */
+    compare_all(sheets);
+    compare_files(sheets / 3);
+    compare_long_walks();
+
+    printf("seed %llu, %lu sheets, %lu searches\n", (unsigned long long)seed, sheets, tally.searches);
+    demand_sheets(sheets);
+    demand_texts();
+    demand_files();
     printf("%lu passed, %lu failed\n", tally.passed, tally.failed);
     return tally.failed != 0;
 }

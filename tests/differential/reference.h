@@ -1,4 +1,4 @@
-/* The answers of document 01, with request 1 of document 02, by the reference. */
+/* The answers of document 01, with requests 1 and 2 of document 02, by the reference. */
 #ifndef REFERENCE_H
 #define REFERENCE_H
 
@@ -28,7 +28,16 @@ struct reference_reading {
 /* Reads a text of so many bytes into a room for so many words, which a refusal leaves unchanged. */
 struct reference_reading reference_read(const unsigned char *text, size_t length, int32_t *word, size_t room);
 
-/* What leastplan prints for an answer, or for a refusal of either table (its numbers as the answer's); returns the number of bytes. */
+/* What the reader of DIMACS CNF files comes to. */
+struct reference_cnf {
+    uint64_t number[3]; /* 0 and the sheet's length; or a refusal's code, its place and, for 19, its clause */
+    int numbers;        /* how many of them there are */
+};
+
+/* Reads a file of so many bytes into a room for so many words, which a refusal leaves unchanged. */
+struct reference_cnf reference_cnf_read(const unsigned char *text, size_t length, int32_t *word, size_t room);
+
+/* What leastplan and cnfplan print for an answer, or for a refusal (its numbers as the answer's); returns the number of bytes. */
 size_t reference_print(const struct reference_answer *a, char *to);
 
 #endif

@@ -1,57 +1,11 @@
 /* A reference for the typed text of document 01, and for what leastplan prints. */
 #include "reference.h"
+#include "reference_token.h"
 
 #include <inttypes.h>
-#include <stdbool.h>
 #include <stdio.h>
 
 /* ---- sheets typed as text */
-
-/* The place of a token's first byte, and the place behind its last byte. */
-struct token {
-    size_t first, end;
-};
-
-static bool is_separator(unsigned char byte)
-{
-    return byte == 9 || byte == 10 || byte == 13 || byte == 32;
-}
-
-/* The whole extent of the next token from a place on; false where there is none. */
-static bool next_token(const unsigned char *text, size_t length, size_t from, struct token *t)
-{
-    t->first = from;
-    while (t->first < length && is_separator(text[t->first]))
-        t->first++;
-    t->end = t->first;
-    while (t->end < length && !is_separator(text[t->end]))
-        t->end++;
-    return t->first < length;
-}
-
-/* Where the first digit of a token should stand. */
-static size_t first_digit(const unsigned char *text, struct token t)
-{
-    return text[t.first] == '-' ? t.first + 1 : t.first;
-}
-
-/* The first place from there on where no digit stands; the token's end where all are digits. */
-static size_t first_other(const unsigned char *text, struct token t)
-{
-    size_t place = first_digit(text, t);
-    while (place < t.end && text[place] >= '0' && text[place] <= '9')
-        place++;
-    return place;
-}
-
-/* The value of a token of at most 10 digits. */
-static int64_t value(const unsigned char *text, struct token t)
-{
-    int64_t size = 0;
-    for (size_t place = first_digit(text, t); place < t.end; place++)
-        size = 10 * size + (text[place] - '0');
-    return text[t.first] == '-' ? -size : size;
-}
 
 /* The order: 23; then token by token, and for each token 21 over its whole length, then 22, then 24. */
 static struct reference_reading check_text(const unsigned char *text, size_t length, size_t room)
@@ -61,10 +15,9 @@ static struct reference_reading check_text(const unsigned char *text, size_t len
     if (length > 60000)
         return (struct reference_reading){23, 60000, 0};
     while (next_token(text, length, t.end, &t)) {
-        if (first_other(text, t) < t.end || first_digit(text, t) == t.end)
-            return (struct reference_reading){21, first_other(text, t), 0};
-        if (t.end - first_digit(text, t) > 10 || value(text, t) < INT32_MIN || value(text, t) > INT32_MAX)
-            return (struct reference_reading){22, t.first, 0};
+        struct token_fault fault = check_token(text, t);
+        if (fault.code != 0)
+            return (struct reference_reading){fault.code, fault.place, 0};
         if (words == room)
             return (struct reference_reading){24, t.first, 0};
         words++;
@@ -79,7 +32,7 @@ struct reference_reading reference_read(const unsigned char *text, size_t length
     struct token t = {0, 0};
     for (size_t i = 0; i < reading.words; i++) {
         next_token(text, length, t.end, &t);
-        word[i] = (int32_t)value(text, t);
+        word[i] = (int32_t)token_value(text, t);
     }
     return reading;
 }

@@ -136,8 +136,18 @@ void doubling_sheet(struct sheet *s, int rules)
     }
 }
 
-/* A place of the sheet whose word is of this kind, or the sheet's length where there is none. */
-static size_t place_of(const struct sheet *s, char is)
+/* All rules but the last are of width 32. */
+void crowded_sheet(struct sheet *s, size_t words)
+{
+    int n = from_to(1, 9), left = (int)words - n - 2, m = (left + 32) / 33;
+    begin(s, n, 1);
+    put(s, 'm', m);
+    for (int i = 1; i < m; i++)
+        put_rule(s, n, 32, 0);
+    put_rule(s, n, left - 33 * (m - 1) - 1, 0);
+}
+
+size_t place_of(const struct sheet *s, char is)
 {
     size_t k = s->words == 0 ? 0 : (size_t)below((int)s->words);
     for (size_t i = 0; i < s->words; i++)
@@ -146,7 +156,7 @@ static size_t place_of(const struct sheet *s, char is)
     return s->words;
 }
 
-static int32_t outside(int32_t high)
+int32_t outside(int32_t high)
 {
     switch (below(6)) {
     case 0: return INT32_MIN;

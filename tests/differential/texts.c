@@ -12,14 +12,14 @@
 static const char separators[] = {9, 10, 13, 32};
 
 /* Between tokens one separator at least, at the ends of the text none. */
-static void put_separators(struct text *t, int least)
+void put_separators(struct text *t, int least)
 {
     int n = one_in(6) ? from_to(1, 3) : least;
     for (int i = 0; i < n; i++)
         t->byte[t->bytes++] = one_in(2) ? ' ' : (unsigned char)separators[below(4)];
 }
 
-static void put_word(struct text *t, int32_t w)
+void put_word(struct text *t, int32_t w)
 {
     char digits[16];
     int64_t size = w < 0 ? -(int64_t)w : w;
@@ -45,7 +45,7 @@ void text_of(const struct sheet *s, struct text *t)
 
 /* ---- damage */
 
-static void insert(struct text *t, size_t at, const char *bytes, size_t n)
+void insert(struct text *t, size_t at, const char *bytes, size_t n)
 {
     memmove(t->byte + at + n, t->byte + at, t->bytes - at);
     memcpy(t->byte + at, bytes, n);
@@ -63,7 +63,7 @@ static char odd_byte(void)
     return one_in(4) ? (char)below(256) : odd[below((int)sizeof odd - 1)];
 }
 
-static void put_odd_byte(struct text *t)
+void put_odd_byte(struct text *t)
 {
     char b = odd_byte();
     if (t->bytes > 0 && one_in(2))
@@ -72,8 +72,8 @@ static void put_odd_byte(struct text *t)
         insert(t, some_place(t), &b, 1);
 }
 
-/* Numbers at the edge of 32 bits and of ten digits. Put inside a token they make it longer. */
-static void put_edge(struct text *t)
+/* Put inside a token it makes the token longer. */
+void put_edge(struct text *t)
 {
     static const char *const edges[] = {" 2147483647 ", " 2147483648 ", " -2147483648 ", " -2147483649 ", " 9999999999 ", " -9999999999 ", " 4294967296 ",
                                         " 0000000000 ", " -0000000000 ", " 00000000000 ", " -00000000001 ", "0000000000", "9999999", "18446744073709551617"};

@@ -1,7 +1,8 @@
--- What each arm of `leastplan_search` tells is the paper's numbers of the search's answer, and these are the definition's.
+-- What each arm of `leastplan_search` and of `leastplan_cnf_read` tells is the paper's numbers of the answer, and these are the definition's.
 --
--- In order: the numbers told so far (`tell-room`, `tell-more`, `tell-end`, `tell-long`); a case of the answer whose numbers are told
--- (`told-case`), and a refusal, whose numbers the sheet's reader tells (`told-refused`). Assumes nothing.
+-- In order: the numbers told so far (`tell-room`, `tell-more`, `tell-end`, `tell-long`); a case of the search's answer whose numbers are
+-- told (`told-case`), and a refusal, whose numbers the sheet's reader tells (`told-refused`); the same for a file that was read
+-- (`told-file`) and for one that was refused (`told-flaw`). Assumes nothing.
 use mathlib.Core.Path.{_≡_, sym, _∙_, ap}
 use mathlib.Core.List.{List}
 use Prim.Native.Nat.{ℕ, _+_, _≤_, _<_}
@@ -13,10 +14,16 @@ use Rattle.lists.specs.Lists.{inFront}
 use Rattle.lists.proofs.InFront.{room-as-long, front-grows}
 use Rattle.sheet.specs.Contract.{numbersAt, Tells}
 use Rattle.sheet.specs.declared.Refusal.{Refusal}
+use Rattle.dimacs.specs.File.{flawNumbers}
+use Rattle.dimacs.specs.Contract as cnf
+use Rattle.dimacs.specs.Contract.{Files}
+use Rattle.dimacs.specs.declared.Filed.{Filed}
+use Rattle.dimacs.specs.declared.Filed.the-variants as filed
+use Rattle.dimacs.specs.declared.Flaw.{Flaw}
 use Rattle.search.specs.Contract.{numbersOf, Finds}
 use Rattle.search.specs.declared.Answer.{Answer}
 use Rattle.search.specs.declared.Answer.the-variants.{Refused}
-use Rattle.exported.specs.Exported.{Searches}
+use Rattle.exported.specs.Exported.{Searches, ReadsFile}
 
 -- ── the numbers told so far ──
 module _ (all before : List ℕ) (fits : length all ≤ length before) (numbers : List ℕ) (i : ℕ) (so-far : numbers ≡ inFront (take i all) before) where
@@ -46,3 +53,16 @@ module _ {ws : List ℤ} {budget : ℕ} {before after numbers numbers′ : List 
 
   pub told-refused : {kind : Refusal} {place count : ℕ} → r ≡ Refused kind place → Tells (numbersAt kind place) numbers count numbers′ → Searches ws budget before numbers after numbers′
   told-refused e t = told-case e (t .room)
+
+-- ── the numbers of a file ──
+module _ {text : List ℕ} {before after : List ℤ} {numbers numbers′ : List ℕ} {r : Filed} (f : Files text before r after) where
+  pub told-file : {s : Filed} → r ≡ s → numbers′ ≡ inFront (cnf.numbersOf s) numbers → ReadsFile text before numbers after numbers′
+  told-file {s} e t = record {
+    told = t ∙ ap (λ (front : List ℕ). inFront front numbers) (sym (ap cnf.numbersOf e) ∙ f .says);
+    room = f .room;
+    value = r;
+    files = f;
+  }
+
+  pub told-flaw : {flaw : Flaw} {place count : ℕ} → r ≡ filed.Refused flaw place → Tells (flawNumbers flaw place) numbers count numbers′ → ReadsFile text before numbers after numbers′
+  told-flaw e t = told-file e (t .room)

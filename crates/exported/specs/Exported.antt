@@ -1,5 +1,5 @@
--- The contract of `leastplan_search`: this paper's numbers in the lent array, the plan room, and all that the search itself promises.
--- 01, "The answer sheet of the search". Definitions only.
+-- The contracts of `leastplan_search` and `leastplan_cnf_read`: this paper's numbers in the lent array, the room, and all that the search
+-- or the reader itself promises. 01, "The answer sheet of the search"; 02, request 2. Definitions only.
 use mathlib.Core.Path.{_≡_}
 use mathlib.Core.List.{List}
 use Prim.Native.Nat.{ℕ}
@@ -8,6 +8,10 @@ use lib.IntN.{ℤ}
 use Rattle.lists.specs.Lists.{inFront}
 use Rattle.hall.specs.Answer.{answer, roomAfter}
 use Rattle.hall.specs.Answer as hall
+use Rattle.dimacs.specs.File.{readFile}
+use Rattle.dimacs.specs.Contract as cnf
+use Rattle.dimacs.specs.Contract.{filedOf, Files}
+use Rattle.dimacs.specs.declared.Filed.{Filed}
 use Rattle.search.specs.Contract.{Finds}
 use Rattle.search.specs.declared.Answer.{Answer}
 
@@ -19,3 +23,12 @@ pub record Searches (ws : List ℤ) (budget : ℕ) (before numbers : List ℕ) (
   -- the search's own answer, and the three demands in their own words
   pub value : Answer
   pub finds : Finds ws budget before value after
+
+pub record ReadsFile (text : List ℕ) (before : List ℤ) (numbers : List ℕ) (after : List ℤ) (numbers' : List ℕ) : Type 0 where
+  -- 0 and the length of the sheet, or the numbers of the refusal, stand in front of the array; the places behind them are unchanged
+  pub told : numbers' ≡ inFront (cnf.numbersOf (filedOf (readFile text (length before)))) numbers
+  -- the room of words afterwards, for every case
+  pub room : after ≡ cnf.roomAfter (readFile text (length before)) before
+  -- the reader's own answer, and what it is given for
+  pub value : Filed
+  pub files : Files text before value after

@@ -1,2 +1,2 @@
--- What the contract of the exported search says.
+-- What the contracts of the exported search and of the exported reader say.
 pub mod Exported

@@ -1,4 +1,4 @@
-// The library for C: the search, and the reply to a typed text.
+// The library for C: the search, the reader of DIMACS files, and the replies to a typed text and to a file.
 //
 // C has no value with cases, so the answer goes into an array: the code, then what is returned, in the table's order. Every plain
 // name of the archive begins with the library's.
@@ -6,8 +6,9 @@ ghost use mathlib.Core.Path.{_≡_};
 ghost use Prim.Native.Nat.{_≤_};
 ghost use lib.ListN.{length};
 ghost use Rattle.lists.specs.Lists.{inFront};
-ghost use Rattle.exported.specs.Exported.{Searches};
-ghost use Rattle.reply.specs.Contract.{Replies};
+ghost use Rattle.exported.specs.Exported.{Searches, ReadsFile};
+ghost use Rattle.reply.specs.Contract.{Replies, RepliesFile};
+use dimacs::Filed;
 use search::Answer;
 
 // The numbers of an answer go to the front of the array; what lies behind them stays.
@@ -58,4 +59,28 @@ pub extern "C" fn leastplan_answer(text: &[u8], out: &mut [u8; 1024]) -> usize
     ensures { λ r. ⌜ Replies (now (text .entry)) (now (out .entry)) r (now (out .exit)) ⌝ }
 {
     reply::answer(text, out)
+}
+
+// 02, request 2: the sheet of a DIMACS file goes to the front of the room; 0 and its length, or the numbers of the refusal, to `numbers`.
+#[no_mangle]
+pub extern "C" fn leastplan_cnf_read(text: &[u8], room: &mut [i32], numbers: &mut [u64; 4])
+    ensures { λ _. ⌜ ReadsFile (now (text .entry)) (now (room .entry)) (now (numbers .entry)) (now (room .exit)) (now (numbers .exit)) ⌝ }
+{
+    match dimacs::read(text, room) {
+        Filed::Words(w) => {
+            let told = [0, w as u64];
+            tell(&told, numbers);
+        }
+        Filed::Refused(flaw, place) => {
+            dimacs::numbers_of(flaw, place, numbers);
+        }
+    }
+}
+
+// 02, request 2: what is printed for a DIMACS file goes to the front of the room; its length is returned.
+#[no_mangle]
+pub extern "C" fn leastplan_cnf_answer(text: &[u8], out: &mut [u8; 1024]) -> usize
+    ensures { λ r. ⌜ RepliesFile (now (text .entry)) (now (out .entry)) r (now (out .exit)) ⌝ }
+{
+    reply::answer_file(text, out)
 }

@@ -11,6 +11,7 @@ pub mod Bound
 pub mod Apart
 pub mod Equality
 pub mod Sums
+pub mod Words
 pub mod Reading
 pub mod Sheets
 pub mod Due

@@ -1,14 +1,14 @@
 -- Laws of `inFront`: what stands in front (`front-stands`), the rest of the room (`rest-stays`), its length (`room-as-long`,
--- `front-fits`), one element more in front (`front-grows`); stores from the front of a room on that has place for them
--- (`sets-in-front`), one run of stores behind another (`sets-append`), rooms that stores make equal are equally long
--- (`sets-as-long`). Assumes nothing.
-use mathlib.Core.Path.{_≡_, sym, _∙_, ap}
+-- `front-fits`), one element more in front (`front-grows`, `front-adds`), another in one's place (`front-changes`), a longer list in
+-- front of that (`front-again`); stores from the front of a room on that has place for them (`sets-in-front`), one run of stores behind
+-- another (`sets-append`), rooms that stores make equal are equally long (`sets-as-long`). Assumes nothing.
+use mathlib.Core.Path.{_≡_, refl, sym, _∙_, ap}
 use mathlib.Core.List.{List, [], _∷_, _++_, append-assoc}
-use Prim.Native.Nat.{ℕ, suc, _+_, _≤_, _<_}
+use Prim.Native.Nat.{ℕ, suc, _+_, _-_, _≤_, _<_}
 use native.Mathlib.Numerals.{add-one}
 use native.Mathlib.Omega.{arith}
 use lib.ListN.{length, getD, take, drop, set, length-append, length-drop}
-use lib.Seq.{length-take-le, take-suc, drop-cons, take-append-seam, drop-append-seam, set-at, sets, length-sets, sets-eq}
+use lib.Seq.{length-take-le, take-suc, drop-cons, take-append-seam, drop-append-seam, drop-drop, set-at, sets, length-sets, sets-eq}
 use Rattle.lists.specs.Lists.{inFront}
 
 module _ {A : Type 0} where
@@ -30,6 +30,35 @@ module _ {A : Type 0} where
       let size : length (take i front) ≡ i = length-take-le i front (omega arith) in
       rw (add-one i, length-take-le (suc i) front l, take-suc front i d l, size, drop-cons room i d (omega arith))
       (set-at (take i front) (getD room i d) (drop (suc i) room) (getD front i d) i size ∙ sym (append-assoc (take i front) (getD front i d ∷ []) (drop (suc i) room)))
+
+  pub front-adds : (front room : List A) (a d : A) → length front < length room → set (inFront front room) (length front) a ≡ inFront (front ++ (a ∷ [])) room
+  front-adds front room a d l =
+      let k = length front in
+      let size : suc k ≡ length (front ++ (a ∷ [])) = omega (arith, length-append front (a ∷ [])) in
+      ap (λ (r : List A). set (front ++ r) k a) (drop-cons room k d l)
+      ∙ set-at front (getD room k d) (drop (suc k) room) a k refl
+      ∙ ap (λ (i : ℕ). front ++ (a ∷ drop i room)) size
+      ∙ sym (append-assoc front (a ∷ []) (drop (length (front ++ (a ∷ []))) room))
+
+  pub front-changes : (before : List A) (x y : A) (after room : List A)
+      → set (inFront (before ++ (x ∷ after)) room) (length before) y ≡ inFront (before ++ (y ∷ after)) room
+  front-changes before x y after room =
+      let size : length (before ++ (x ∷ after)) ≡ length (before ++ (y ∷ after)) = omega (arith, length-append before (x ∷ after), length-append before (y ∷ after)) in
+      ap (λ (r : List A). set r (length before) y) (append-assoc before (x ∷ after) (drop (length (before ++ (x ∷ after))) room))
+      ∙ set-at before x (after ++ drop (length (before ++ (x ∷ after))) room) y (length before) refl
+      ∙ ap (λ (i : ℕ). before ++ (y ∷ (after ++ drop i room))) size
+      ∙ sym (append-assoc before (y ∷ after) (drop (length (before ++ (y ∷ after))) room))
+
+  pub front-again : (front longer room : List A) → length front ≤ length longer → inFront longer (inFront front room) ≡ inFront longer room
+  front-again front longer room l =
+      let k = length longer - length front in
+      let size : length front + k ≡ length longer = omega arith in
+      ap (λ (rest : List A). longer ++ rest)
+      (ap (λ (n : ℕ). drop n (inFront front room)) (sym size)
+      ∙ sym (drop-drop k (length front) (inFront front room))
+      ∙ ap (drop k) (rest-stays front room)
+      ∙ drop-drop k (length front) room
+      ∙ ap (λ (n : ℕ). drop n room) size)
 
   pub sets-in-front : (front room : List A) → length front ≤ length room → sets room 0 front ≡ inFront front room
   sets-in-front front room l =

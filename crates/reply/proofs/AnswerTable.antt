@@ -1,5 +1,6 @@
--- The table of known texts, by computation from the text to the lines that are printed (`rows-right`); large numbers
--- (`million-right`, `five-billion-right`, `largest-of-64-right`), and the line of a budget that was spent (`spent-right`). Assumes nothing.
+-- The tables of known texts and of known files, by computation from the text to the lines that are printed (`rows-right`, `files-right`);
+-- large numbers (`million-right`, `five-billion-right`, `largest-of-64-right`), and the line of a budget that was spent (`spent-right`).
+-- Assumes nothing.
 use mathlib.Core.Path.{_≡_, refl, sym}
 use mathlib.Core.List.{map}
 use lib.Dec.{lit≤, lit<}
@@ -7,18 +8,24 @@ use Rattle.lists.specs.Bytes.{bytes}
 use Rattle.hall.specs.Hall.{holds, isFree, hold, meetsRule, meetsAll, firstUnmet}
 use Rattle.hall.specs.Order.{ifHeld, costOf, heldOf, heldFrom, less, rank, better}
 use Rattle.hall.specs.Walk.{keep, oneMore, closes, shut, still, after, entryBy, through, opening, nodeBy, node, walk, walkFrom, start, walkHall}
-use Rattle.hall.specs.Ranges.{wordsOf}
+use Rattle.hall.specs.Ranges.{wordsOf, ruleWords, words}
 use Rattle.hall.specs.Reading.{times, rule, allRules, hall, decodeBy, decode}
 use Rattle.hall.specs.Answer.{spent, answer}
 use Rattle.typed.specs.Text as text
 use Rattle.typed.specs.Printing.{digitsBy, digitsOf}
-use Rattle.reply.specs.Printed.{spaced, printedAnswer, printedFor}
-use Rattle.reply.specs.Table.{Row, output, rows, million, fiveBillion, largestOf64}
+use Rattle.dimacs.specs.Stage.{sheetSoFar}
+use Rattle.dimacs.specs.File as cnf
+use Rattle.reply.specs.Printed.{spaced, printedAnswer, printedFor, printedForFile}
+use Rattle.reply.specs.Table.{Row, output, outputOfFile, rows, fileRows, million, fiveBillion, largestOf64}
 use Rattle.reply.proofs.Digits.{decimal-is}
 
 pub rows-right : map output rows ≡ map (λ (r : Row). r .printed) rows
 unfolding rows printedFor text.readText text.readTokens text.numberOf text.decimal text.tokensFrom text.front answer decode decodeBy hall allRules rule times walkHall walkFrom start walk node nodeBy opening through entryBy after still shut closes oneMore keep better rank less heldFrom heldOf costOf ifHeld firstUnmet meetsAll meetsRule hold isFree holds wordsOf spaced digitsBy
 rows-right = refl
+
+pub files-right : map outputOfFile fileRows ≡ map (λ (r : Row). r .printed) fileRows
+unfolding fileRows printedForFile cnf.readFile cnf.readHeader cnf.readNumbers cnf.taken sheetSoFar cnf.sameBytes cnf.leadLength words ruleWords text.numberOf text.decimal text.tokensFrom text.front answer decode decodeBy hall allRules rule times walkHall walkFrom start walk node nodeBy opening through entryBy after still shut closes oneMore keep better rank less heldFrom heldOf costOf ifHeld firstUnmet meetsAll meetsRule hold isFree holds wordsOf spaced digitsBy
+files-right = refl
 
 -- large numbers, by the law that a number's digits are the kit's
 pub million-right : digitsOf 1000000 ≡ million

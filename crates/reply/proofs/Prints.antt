@@ -1,13 +1,10 @@
--- Lines that were put in front of a room (`put-in-front`, `front-and-rest`); and the contract of `print_answer`, for each case of the
--- answer (`prints-least`, `prints-none`, `prints-spent`, `prints-refused`). Assumes nothing.
-use mathlib.Core.Path.{_≡_, _∙_, ap}
+-- The contract of `print_answer`, for each case of the answer (`prints-least`, `prints-none`, `prints-spent`, `prints-refused`). Assumes
+-- nothing.
+use mathlib.Core.Path.{_≡_}
 use mathlib.Core.List.{List, [], _∷_, _++_}
 use Prim.Native.Nat.{ℕ, _-_}
-use native.Mathlib.Omega.{arith}
-use lib.ListN.{length, take, drop}
-use Rattle.lists.specs.Lists.{inFront}
+use lib.ListN.{length, take}
 use Rattle.lists.specs.Bytes.{bytes}
-use Rattle.lists.proofs.InFront.{front-stands, rest-stays, sets-in-front}
 use Rattle.sheet.specs.Contract.{numbersAt, Tells}
 use Rattle.sheet.specs.declared.Refusal.{Refusal}
 use Rattle.sheet.proofs.ToldNumbers.{told-front}
@@ -17,24 +14,11 @@ use Rattle.search.specs.declared.Answer.the-variants.{Least, None, Spent, Refus
 use Rattle.reply.specs.Printed.{line, holdLine, refusedLine}
 use Rattle.reply.specs.Contract.{Puts, linesOf, Prints}
 use Rattle.reply.proofs.Putting.{puts-then}
+use Rattle.reply.proofs.InRoom.{put-in-room, in-room-as}
 
--- ── lines in front of a room ──
-module _ (lines before : List ℕ) (r : ℕ) (after : List ℕ) where
-  pub put-in-front : Puts lines 0 before r after → after ≡ inFront lines before
-  put-in-front p = p .leaves ∙ sets-in-front lines before (omega (arith, p .ends, p .fits))
-
-  -- they are the room's first r bytes, and the rest is as it was
-  pub front-and-rest : r ≡ length lines → after ≡ inFront lines before → (take r after ≡ lines) × (drop r after ≡ drop r before)
-  front-and-rest e room = rw (e, room) (front-stands lines before, rest-stays lines before)
-
--- ── the contract ──
 module _ (answer : Answer) (plan before : List ℕ) (r : ℕ) (after : List ℕ) (size : length before ≡ 1024) where
   prints : (lines : List ℕ) → lines ≡ linesOf answer plan → Puts lines 0 before r after → Prints answer plan before r after
-  prints lines e p =
-      let says : r ≡ length (linesOf answer plan) = omega (arith, p .ends, ap length e) in
-      let room : after ≡ inFront (linesOf answer plan) before = put-in-front lines before r after p ∙ ap (λ (l : List ℕ). inFront l before) e in
-      let both = front-and-rest (linesOf answer plan) before r after says room in
-      record { size = size; says = says; fits = omega (arith, p .fits); room = room; front = both .0; rest = both .1 }
+  prints lines e p = in-room-as lines before r after (linesOf answer plan) e (put-in-room lines before r after size p)
 
   pub prints-least : (cost held opened next : ℕ) (out : List ℕ) → answer ≡ Least cost held opened
       → Puts (line (bytes "least") digitsOf (cost ∷ held ∷ opened ∷ [])) 0 before next out → Puts (holdLine (take 200 plan)) next out r after

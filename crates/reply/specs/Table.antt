@@ -1,13 +1,13 @@
--- Texts with known output. 01, "What leastplan prints" and "Sheets with known answers".
+-- Texts and files with known output. 01, "What leastplan prints" and "Sheets with known answers"; 02, request 2.
 --
--- In order: what a row says and what the definitions print for it; the rows, 01's example first; large numbers. A text of more than
--- 60,000 bytes, and one of more than 16,384 words, are no rows: that they are refused is proved in `typed`. Definitions only; that
--- the rows are right is proofs/AnswerTable.
+-- In order: what a row says and what the definitions print for it; the rows, 01's example first; the rows of DIMACS files; large
+-- numbers. A text of more than 60,000 bytes, and one of more than 16,384 words, are no rows: that they are refused is proved in `typed`
+-- and `dimacs`. Definitions only; that the rows are right is proofs/AnswerTable.
 use mathlib.Core.List.{List, [], _∷_}
 use Prim.Native.Nat.{ℕ}
 use Prim.Native.String.{String}
 use Rattle.lists.specs.Bytes.{bytes}
-use Rattle.reply.specs.Printed.{printedFor}
+use Rattle.reply.specs.Printed.{printedFor, printedForFile}
 
 pub record Row : Type 0 where
   pub text : List ℕ
@@ -16,9 +16,12 @@ pub record Row : Type 0 where
 abbrev pub row : String → String → Row
 row text printed = record { text = bytes text; printed = bytes printed }
 
--- what the definitions print for a row
+-- what the definitions print for a row: its text was typed, or is a file
 abbrev pub output : Row → List ℕ
 output r = printedFor (r .text)
+
+abbrev pub outputOfFile : Row → List ℕ
+outputOfFile r = printedForFile (r .text)
 
 unfoldable pub rows : List Row
 rows =
@@ -45,6 +48,26 @@ rows =
     -- a text that is refused: a wrong byte; a number outside the words
     ∷ row "0 x" "refused 21 2\n"
     ∷ row "0 2147483648" "refused 22 2\n"
+    ∷ []
+
+unfoldable pub fileRows : List Row
+fileRows =
+    -- 01's own example, every cost 1
+    row "c the four devices of 01's example\np cnf 4 3\n1 2 0\n-2 3 0\n-1 4 0\n" "least 3 3 10\nhold 2 3 4\n"
+    -- no clause: `hold` alone
+    ∷ row "p cnf 2 0" "least 0 0 1\nhold\n"
+    -- an empty clause
+    ∷ row "p cnf 0 1\n0\n" "none 1\n"
+    -- a file that is refused: no header; a percent sign; too many variables; an entry beyond them; the 33rd entry of the second clause;
+    -- a clause not closed; a token behind the last clause
+    ∷ row "" "refused 31 0\n"
+    ∷ row "1 2 0\n" "refused 31 0\n"
+    ∷ row "p cnf 1 1\n1 0\n%\n0\n" "refused 21 14\n"
+    ∷ row "p cnf 201 1" "refused 12 6\n"
+    ∷ row "p cnf 1 1\n2 0\n" "refused 14 10\n"
+    ∷ row "p cnf 1 2\n0\n1 1 1 1 1 1 1 1 1 1 1 1 1 1 1 1 1 1 1 1 1 1 1 1 1 1 1 1 1 1 1 1 1 0\n" "refused 19 76 2\n"
+    ∷ row "p cnf 1 1\n1" "refused 32 11\n"
+    ∷ row "p cnf 1 1\n1 0\n0\n" "refused 33 14\n"
     ∷ []
 
 -- numbers that are too large to be counted down: what `spent` prints; 01's largest total; the largest of 64 bits

@@ -1,14 +1,15 @@
-// What `leastplan` prints, as bytes in a lent room; and the whole way from a typed text to them. 01, "What leastplan prints"; 02,
-// request 1.
+// What `leastplan` and `cnfplan` print, as bytes in a lent room; and the whole way to them, from a typed text and from a DIMACS file.
+// 01, "What leastplan prints"; 02, requests 1 and 2.
 //
 // put copies bytes and digits into the room; lines makes a line of a word and its numbers, and the line of the held devices.
 ghost use mathlib.Core.Path.{_≡_};
 ghost use lib.ListN.{length};
-ghost use Rattle.reply.specs.Contract.{Prints, Replies};
+ghost use Rattle.reply.specs.Contract.{Prints, Searched, Replies, RepliesFile};
 
 mod lines;
 mod put;
 
+use dimacs::Filed;
 use lines::put_hold;
 use lines::put_line;
 use lines::put_refused;
@@ -49,6 +50,15 @@ pub fn print_answer(answer: Answer, plan: &[u8; 200], out: &mut [u8; 1024]) -> u
     }
 }
 
+// Behind either reader: the least plan of a sheet is searched, and the answer is printed.
+fn searched(words: &[i32], out: &mut [u8; 1024]) -> usize
+    ensures { λ r. ⌜ Searched (now (words .entry)) (now (out .entry)) r (now (out .exit)) ⌝ }
+{
+    let mut plan = search::plan_room();
+    let found = search::least_plan(words, 1000000, &mut plan);
+    print_answer(found, &plan, out)
+}
+
 // The whole way: the text is read into words, the least plan of their sheet is searched, and the answer is printed.
 pub fn answer(text: &[u8], out: &mut [u8; 1024]) -> usize
     ensures { λ r. ⌜ Replies (now (text .entry)) (now (out .entry)) r (now (out .exit)) ⌝ }
@@ -60,10 +70,21 @@ pub fn answer(text: &[u8], out: &mut [u8; 1024]) -> usize
             let numbers = [code, place as u64];
             put_refused(&numbers, out)
         }
-        Reading::Words(w) => {
-            let mut plan = search::plan_room();
-            let found = search::least_plan(&words[0..w], 1000000, &mut plan);
-            print_answer(found, &plan, out)
+        Reading::Words(w) => searched(&words[0..w], out),
+    }
+}
+
+// The same for a DIMACS file: it is read into words, and their sheet is searched.
+pub fn answer_file(text: &[u8], out: &mut [u8; 1024]) -> usize
+    ensures { λ r. ⌜ RepliesFile (now (text .entry)) (now (out .entry)) r (now (out .exit)) ⌝ }
+{
+    let mut words = words_room();
+    match dimacs::read(text, &mut words) {
+        Filed::Refused(flaw, place) => {
+            let mut numbers = [0u64; 4];
+            let told = dimacs::numbers_of(flaw, place, &mut numbers);
+            put_refused(&numbers[0..told], out)
         }
+        Filed::Words(w) => searched(&words[0..w], out),
     }
 }

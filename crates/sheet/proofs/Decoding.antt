@@ -5,7 +5,7 @@
 -- Assumes nothing.
 use mathlib.Core.Path.{_≡_, refl, sym, _∙_, ap, subst}
 use mathlib.Core.List.{List, [], _∷_, _++_}
-use Prim.Native.Nat.{ℕ, suc, _+_, _≤_}
+use Prim.Native.Nat.{ℕ, _+_, _≤_}
 use native.Mathlib.Omega.{arith}
 use lib.ListN.{length, drop, length-append}
 use lib.Seq.{sets}
@@ -15,6 +15,7 @@ use Rattle.lists.specs.Lists.{Each}
 use Rattle.hall.specs.Ranges.{RuleInRange, wordsOf, numberWords, ruleWords, words, SheetOf}
 use Rattle.hall.specs.Bound.{entries}
 use Rattle.hall.specs.Reading.{Read, bad, got, decode}
+use Rattle.hall.proofs.Words.{number-words-length}
 use Rattle.hall.proofs.Reading.{past}
 use Rattle.hall.proofs.Reasons.{decoded}
 use Rattle.lists.proofs.InFront.{sets-in-front}
@@ -66,11 +67,6 @@ module _ (ws : List ℤ) (room : ℕ) (s : Sheet) (e : s ≡ sheetOf (decode roo
   accepted-few n m u = let a = good-sheet n m u in let d = a .devices in let r = a .sheet-of .ranges .devices in omega arith
 
 -- the words of a hall, part by part
-cost-words-length : (cs : List ℕ) → length (wordsOf numberWords cs) ≡ length cs
-unfolding wordsOf
-cost-words-length [] = refl
-cost-words-length (c ∷ cs) = ap suc (cost-words-length cs)
-
 record Parts (ws : List ℤ) (h : Hall) : Type 0 where
   costs-here : drop 1 ws ≡ wordsOf numberWords (h .costs) ++ (pos (length (h .rules)) ∷ wordsOf ruleWords (h .rules))
   rules-here : drop (length (h .costs) + 2) ws ≡ wordsOf ruleWords (h .rules)
@@ -84,7 +80,7 @@ parts ws h e =
     let a = past ws 0 (pos (length (h .costs)) ∷ []) (cs ++ (pos (length (h .rules)) ∷ rs)) e in
     let b = past ws 1 cs (pos (length (h .rules)) ∷ rs) a in
     let c = past ws (1 + length cs) (pos (length (h .rules)) ∷ []) rs b in
-    let l = cost-words-length (h .costs) in
+    let l = number-words-length (h .costs) in
     let place : 1 + length cs + 1 ≡ length (h .costs) + 2 = omega arith in
     record { costs-here = a; rules-here = subst (λ (k : ℕ). drop k ws ≡ rs) place c; enough = omega (arith, ap length e, length-append cs (pos (length (h .rules)) ∷ rs)) }
 

@@ -1,8 +1,8 @@
 -- One word: what the code tells of it, and what its reader gives.
 --
--- In order: from a word and its sign to the number or the entry that it is read as (`number-..`, `entry-..`), and to what stands on a
--- good sheet (`value-..`, `code-..`); a reader of one word, by what was told (`told-missing`, `told-outside`, `told-is`).
--- Assumes nothing.
+-- In order: a word by its place, its sign split off (`no-word`, `word-split`); from a word and its sign to the number or the entry that
+-- it is read as (`number-..`, `entry-..`), and to what stands on a good sheet (`value-..`, `code-..`); a reader of one word, by what
+-- was told (`told-missing`, `told-outside`, `told-is`). Assumes nothing.
 use mathlib.Core.Path.{_≡_, refl, sym, _∙_, ap}
 use mathlib.Core.Bool.{Bool, true, false}
 use mathlib.Core.List.{List, [], _∷_}
@@ -16,7 +16,9 @@ use borrow.Author.Tests.{le-leb, lt-leb, lt-ltb, le-ltb, ltb-true}
 use Rattle.hall.specs.Hall.{Entry, at1, at0, device}
 use Rattle.hall.specs.Reading.{Fault, tooShort, Read, bad, got, asRead, atWord, word, onlyIf, upTo, asEntry}
 use Rattle.sheet.specs.Coded.{entryCode}
-use Rattle.sheet.specs.Word.{wordOf, itemBy, itemOf, codeBy, codeIn, numberIn, codeOrZero}
+use Rattle.sheet.specs.Word.{splitOf, wordOf, itemBy, itemOf, codeBy, codeIn, numberIn, codeOrZero}
+use Rattle.sheet.specs.declared.Split.{Split}
+use Rattle.sheet.specs.declared.Split.the-variants as split
 use Rattle.sheet.specs.declared.word.Word.{Word}
 use Rattle.sheet.specs.declared.word.Word.the-variants as word-is
 use Rattle.sheet.specs.declared.word.Item.{Item}
@@ -33,11 +35,17 @@ the-word [] i l = absurd (omega arith)
 the-word (x ∷ ws) zero l = refl
 the-word (x ∷ ws) (suc i) l = the-word ws i (omega arith)
 
-pub word-up : (ws : List ℤ) (i n : ℕ) → i < length ws → getD ws i (pos 0) ≡ pos n → word-is.Up n ≡ wordOf (getElem? ws i)
-word-up ws i n l e = rw (the-word ws i l, e)
+abbrev pub wordBy : Split → Word
+wordBy (split.Up n) = word-is.Up n
+wordBy (split.Down n) = word-is.Down n
 
-pub word-down : (ws : List ℤ) (i n : ℕ) → i < length ws → getD ws i (pos 0) ≡ negsuc n → word-is.Down n ≡ wordOf (getElem? ws i)
-word-down ws i n l e = rw (the-word ws i l, e)
+split-word : (z : ℤ) → wordBy (splitOf z) ≡ wordOf (some z)
+split-word (pos n) = refl
+split-word (negsuc n) = refl
+
+-- the code splits what the machine reads back from the word's bits
+pub word-split : (ws : List ℤ) (i : ℕ) (z : ℤ) (r : Split) → i < length ws → z ≡ getD ws i (pos 0) → r ≡ splitOf z → wordBy r ≡ wordOf (getElem? ws i)
+word-split ws i z r l e q = ap wordBy (q ∙ ap splitOf e) ∙ split-word (getD ws i (pos 0)) ∙ sym (ap wordOf (the-word ws i l))
 
 -- ── a word, by its sign ──
 is-up : (o : Option ℤ) (w : Word) (v : ℕ) → w ≡ wordOf o → w ≡ word-is.Up v → o ≡ some (pos v)

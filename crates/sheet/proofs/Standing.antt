@@ -13,18 +13,13 @@ use Rattle.hall.specs.Hall.{Entry, at1, at0, device, Rule, Hall}
 use Rattle.lists.specs.Lists.{Each}
 use Rattle.hall.specs.Ranges.{RuleInRange, wordsOf, numberWords, entryWords, ruleWords, words, SheetOf}
 use Rattle.hall.specs.Bound.{entries}
+use Rattle.hall.proofs.Words.{entry-words-length}
 use Rattle.hall.proofs.Reading.{drop-word, past}
 use Rattle.sheet.specs.Coded.{entryCode, entryCodes, startsFrom}
 use Rattle.sheet.specs.Word.{valueAt, codeAt, run, numbersFrom, codesFrom}
 use Rattle.sheet.specs.Placed.{codesIn, startsIn, RulesStand}
 
 -- ── one rule ──
-pub entry-words-length : (r : Rule) → length (wordsOf entryWords r) ≡ length r
-unfolding wordsOf
-entry-words-length [] = refl
-entry-words-length (at1 v ∷ r) = ap suc (entry-words-length r)
-entry-words-length (at0 v ∷ r) = ap suc (entry-words-length r)
-
 -- the width of a rule stands at its place, its entries behind it, and the other rules behind those
 record RuleStands (ws : List ℤ) (at : ℕ) (r : Rule) (rest : List ℤ) : Type 0 where
   width : valueAt ws at ≡ length r

@@ -1,8 +1,12 @@
 // Reads a hall sheet: 01, "The hall sheet" and "The answer sheet of the search"; 02, request 1. Codes 11 to 19.
 //
 // The sheet is checked first, from left to right, and nothing is written (check). A good sheet is then coded into the arrays that
-// the caller lends (coding). One function alone reads a signed word (word); all else is unsigned. The numbers of a refusal: telling.
+// the caller lends (coding). One function alone reads a signed word (`split_sign`); all else is unsigned. The numbers of a refusal:
+// telling.
+ghost use mathlib.Core.Path.{_≡_};
+ghost use mathlib.Core.List.{[], _∷_};
 ghost use Rattle.sheet.specs.Contract.{numbersAt, Tells, Decodes};
+ghost use Rattle.sheet.specs.Word.{splitOf};
 
 mod check;
 mod coding;
@@ -25,10 +29,27 @@ pub enum Refusal {
     BadWidth(usize),
 }
 
+// A word with its sign split off: Up(n) is n, Down(k) is -(k + 1).
+pub enum Split {
+    Up(u32),
+    Down(u32),
+}
+
 // What a sheet is read as: a hall, with its numbers of devices and of rules; or a refusal and its place.
 pub enum Sheet {
     Hall(usize, usize),
     Refused(Refusal, usize),
+}
+
+// A word of a sheet or of a file. It alone touches a signed number; what it gives is unsigned.
+pub fn split_sign(word: i32) -> Split
+    ensures { λ r. ⌜ r ≡ splitOf word ⌝ }
+{
+    if word < 0 {
+        Split::Down((-(word + 1)) as u32)
+    } else {
+        Split::Up(word as u32)
+    }
 }
 
 // The paper's numbers of a refusal go to the front of the array: its code, its place and, for a width, the number of its rule. How
@@ -47,6 +68,13 @@ pub fn numbers_of(refusal: Refusal, place: usize, numbers: &mut [u64; 4]) -> usi
         Refusal::BadRuleCount => tell_place(18, place, numbers),
         Refusal::BadWidth(rule) => tell_rule(19, place, rule, numbers),
     }
+}
+
+// The numbers of a refusal that has a code and a place alone, for the kinds that are not a sheet's.
+pub fn tell_code(code: u64, place: usize, numbers: &mut [u64; 4]) -> usize
+    ensures { λ r. ⌜ Tells (code ∷ place ∷ []) (now (numbers .entry)) r (now (numbers .exit)) ⌝ }
+{
+    tell_place(code, place, numbers)
 }
 
 // Reads a sheet for a plan room of so many bytes. A hall is coded into the three arrays: the costs; all entries in one run of codes;

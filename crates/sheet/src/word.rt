@@ -1,9 +1,11 @@
-// One word of a sheet. `word_at` alone touches a signed number; it splits the sign off, and what it gives is unsigned.
+// One word of a sheet.
 ghost use mathlib.Core.Path.{_≡_};
 ghost use Prim.Native.Nat.{_≤_};
 ghost use lib.ListN.{getElem?};
 ghost use Rattle.hall.specs.Reading.{upTo};
 ghost use Rattle.sheet.specs.Word.{wordOf, itemOf, codeIn, valueAt, codeAt};
+use crate::Split;
+use crate::split_sign;
 
 // Up(n) is n, Down(k) is -(k + 1), Missing stands where the sheet has no such word.
 pub(crate) enum Word {
@@ -26,11 +28,9 @@ fn word_at(words: &[i32], at: usize) -> Word
     if words.len() <= at {
         return Word::Missing;
     }
-    let w = words[at];
-    if w < 0 {
-        Word::Down((-(w + 1)) as u32)
-    } else {
-        Word::Up(w as u32)
+    match split_sign(words[at]) {
+        Split::Up(v) => Word::Up(v),
+        Split::Down(k) => Word::Down(k),
     }
 }
 

@@ -2,21 +2,22 @@
 --
 -- In order: the answer with some words counted (`countedOn`); what the loop knows (`Counting`), at its start (`counting-start`), at
 -- each of its ends (`counting-end`, `counting-bad`, `counting-full`) and with one word more (`counting-more`). Assumes nothing.
-use mathlib.Core.Path.{_≡_, refl, sym, _∙_, ap, subst}
+use mathlib.Core.Path.{_≡_, refl, sym, _∙_, ap}
 use mathlib.Core.List.{List, _∷_}
 use Prim.Native.Nat.{ℕ, _+_, _-_, _≤_, _<_}
 use native.Mathlib.Omega.{arith}
 use lib.ListN.{length}
 use lib.IntN.{ℤ}
-use Rattle.typed.specs.Text.{Read, refused, got, then, tokens, readTokens}
+use Rattle.typed.specs.Text.{Read, refused, got, then, tokens, tokensAt, readTokens}
+use Rattle.typed.specs.Next.{nextOf}
 use Rattle.typed.specs.Answer.{readingOf}
-use Rattle.typed.specs.Steps.{tokensAt, FoundWord, FoundMistake, NextIs}
 use Rattle.typed.specs.declared.Mistake.{Mistake}
 use Rattle.typed.specs.declared.Mistake.the-variants.{NoRoom}
 use Rattle.typed.specs.declared.Reading.{Reading}
 use Rattle.typed.specs.declared.Reading.the-variants.{Words, Refused}
-use Rattle.typed.specs.declared.words.Next.{Next}
-use Rattle.typed.specs.declared.words.Next.the-variants.{End, Found, Bad}
+use Rattle.typed.specs.declared.Next.{Next}
+use Rattle.typed.specs.declared.Next.the-variants.{End, Found, Bad}
+use Rattle.typed.proofs.Splitting.{FoundWord, FoundMistake, next-end, next-found, next-bad}
 use Rattle.typed.proofs.Taking.{none-left, got-one, no-room, one-bad}
 
 -- the answer to what is left, where so many words were counted before it
@@ -48,18 +49,18 @@ module _ {text : List ℕ} {room i n : ℕ} (c : Counting text room i n) where
   ends-by : {x : Read (List ℤ)} → readTokens (room - n) (tokensAt text i) ≡ x → countedOn n x ≡ readingOf (readTokens room (tokens text))
   ends-by e = sym (ap (countedOn n) e) ∙ c .answer
 
-module _ {text : List ℕ} {room i n : ℕ} (c : Counting text room i n) {r : Next} (h : NextIs text i r) where
+module _ {text : List ℕ} {room i n : ℕ} (c : Counting text room i n) {r : Next} (h : r ≡ nextOf (tokensAt text i)) where
   pub counting-end : r ≡ End → Words n ≡ readingOf (readTokens room (tokens text))
-  counting-end e = ap Words (omega arith) ∙ ends-by c (ap (readTokens (room - n)) (subst (NextIs text i) e h) ∙ none-left (room - n))
+  counting-end e = ap Words (omega arith) ∙ ends-by c (ap (readTokens (room - n)) (next-end text i h e) ∙ none-left (room - n))
 
   pub counting-bad : {m : Mistake} {place : ℕ} → r ≡ Bad m place → Refused m place ≡ readingOf (readTokens room (tokens text))
   counting-bad {m} {place} e =
-      let f : FoundMistake text i m place = subst (NextIs text i) e h in
+      let f : FoundMistake text i m place = next-bad text i h e in
       ends-by c (ap (readTokens (room - n)) (f .first) ∙ one-bad (room - n) (f .token) (f .rest) m place (f .says))
 
   module _ {z : ℤ} {start end : ℕ} (e : r ≡ Found z start end) where
     pub counting-word : FoundWord text i z start end
-    counting-word = subst (NextIs text i) e h
+    counting-word = next-found text i h e
 
     pub counting-full : room ≤ n → Refused NoRoom start ≡ readingOf (readTokens room (tokens text))
     counting-full l =

@@ -2,7 +2,7 @@
 --
 -- In order: what the loop knows (`Filling`), at its start (`filling-start`), at its end (`filling-end`), that it meets no mistake
 -- (`filling-never`), and with one word more (`filling-more`). Assumes nothing.
-use mathlib.Core.Path.{_≡_, refl, sym, _∙_, ap, subst}
+use mathlib.Core.Path.{_≡_, refl, sym, _∙_, ap}
 use mathlib.Core.List.{List, [], _∷_, _++_, append-assoc, append-nil}
 use Prim.Native.Nat.{ℕ, _+_, _-_, _≤_, _<_}
 use native.Mathlib.Omega.{arith}
@@ -10,12 +10,14 @@ use native.Mathlib.Numerals.{add-one}
 use lib.ListN.{length, take, drop, set, length-set, take-append-drop}
 use lib.Seq.{take-suc-set, drop-set-lt, drop-drop, length-take-le}
 use lib.IntN.{ℤ}
-use Rattle.typed.specs.Text.{Read, got, tokens, readTokens}
+use Rattle.typed.specs.Text.{Read, got, tokens, tokensAt, readTokens}
+use Rattle.typed.specs.Next.{nextOf}
 use Rattle.typed.specs.Answer.{roomAfter}
-use Rattle.typed.specs.Steps.{tokensAt, FoundWord, FoundMistake, NextIs, Taken}
+use Rattle.typed.specs.Steps.{Taken}
 use Rattle.typed.specs.declared.Mistake.{Mistake}
-use Rattle.typed.specs.declared.words.Next.{Next}
-use Rattle.typed.specs.declared.words.Next.the-variants.{End, Found, Bad}
+use Rattle.typed.specs.declared.Next.{Next}
+use Rattle.typed.specs.declared.Next.the-variants.{End, Found, Bad}
+use Rattle.typed.proofs.Splitting.{FoundWord, FoundMistake, next-end, next-found, next-bad}
 use Rattle.typed.proofs.Taking.{none-left, one-bad, clash, TookWord, took}
 
 pub record Filling (text : List ℕ) (before : List ℤ) (i n : ℕ) (now : List ℤ) : Type 0 where
@@ -38,10 +40,10 @@ filling-start {text} {before} t = record {
   same = refl;
 }
 
-module _ {text : List ℕ} {before now : List ℤ} {i n : ℕ} (g : Filling text before i n now) {r : Next} (h : NextIs text i r) where
+module _ {text : List ℕ} {before now : List ℤ} {i n : ℕ} (g : Filling text before i n now) {r : Next} (h : r ≡ nextOf (tokensAt text i)) where
   pub filling-end : r ≡ End → now ≡ roomAfter (readTokens (length before) (tokens text)) before
   filling-end e =
-      let none : got (g .left) ≡ got [] = sym (g .rest) ∙ ap (readTokens (length before - n)) (subst (NextIs text i) e h) ∙ none-left (length before - n) in
+      let none : got (g .left) ≡ got [] = sym (g .rest) ∙ ap (readTokens (length before - n)) (next-end text i h e) ∙ none-left (length before - n) in
       let empty : g .left ≡ [] = cc in
       let size : n ≡ length (take n now) = sym (length-take-le n now (omega (arith, g .same, g .holds))) in
       let written : take n now ++ g .left ≡ take n now = ap (λ (l : List ℤ). take n now ++ l) empty ∙ append-nil (take n now) in
@@ -52,12 +54,12 @@ module _ {text : List ℕ} {before now : List ℤ} {i n : ℕ} (g : Filling text
 
   pub filling-never : {m : Mistake} {place : ℕ} → r ≡ Bad m place → ⊥
   filling-never {m} {place} e =
-      let f : FoundMistake text i m place = subst (NextIs text i) e h in
+      let f : FoundMistake text i m place = next-bad text i h e in
       clash (sym (ap (readTokens (length before - n)) (f .first) ∙ one-bad (length before - n) (f .token) (f .rest) m place (f .says)) ∙ g .rest)
 
   module _ {z : ℤ} {start end : ℕ} (e : r ≡ Found z start end) where
     pub filling-word : FoundWord text i z start end
-    filling-word = subst (NextIs text i) e h
+    filling-word = next-found text i h e
 
     one : TookWord (length before - n) (tokensAt text end) z (g .left)
     one =

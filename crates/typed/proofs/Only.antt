@@ -24,7 +24,7 @@ use Rattle.typed.specs.declared.Reading.the-variants.{Words, Refused}
 use Rattle.typed.proofs.Verdicts.{accepted-exactly, refused-exactly}
 
 -- ── one answer, one room ──
-abbrev mistakeOf : ℕ → Mistake
+abbrev pub mistakeOf : ℕ → Mistake
 mistakeOf n = cond (eqb n 21) WrongByte (cond (eqb n 22) BadNumber (cond (eqb n 23) TooLong NoRoom))
 
 kind-of-code : (m : Mistake) → mistakeOf (mistakeCode m) ≡ m

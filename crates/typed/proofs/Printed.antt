@@ -85,7 +85,7 @@ digits-few (suc k) n j h = go (ltb n 10) refl j h (λ i. digits-few k (n / 10) i
         omega (arith, length-append (digitsBy k (n / 10)) ((48 + n % 10) ∷ []))
 
 -- ── a word ──
-word-allowed : (z : ℤ) → WordSized z → Allowed (printedWord z) z
+pub word-allowed : (z : ℤ) → WordSized z → Allowed (printedWord z) z
 word-allowed (pos n) h = record {
   minus = false;
   digits = digitsOf n;

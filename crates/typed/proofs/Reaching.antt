@@ -1,8 +1,9 @@
 -- How a text is reached: separators and allowed tokens up to a place, and what the reader makes of them.
 --
--- In order: closed texts, one behind another (`closed-append`); the bytes of an allowed token (`allowed-bytes`, `allowed-some`); what
--- the reader makes of a text from a place on that is reached (`behind`, `closed-reads`, `reached-reads`); one separator and one word
--- further (`reached-separator`, `reached-word`). Assumes nothing.
+-- In order: closed texts, one behind another (`closed-append`); the bytes of an allowed token (`allowed-bytes`, `allowed-some`); one
+-- separator, and one token with the separator behind it (`skip-one`, `past-token`); what the reader makes of a text from a place on that is
+-- reached (`behind`, `closed-reads`, `reached-reads`); one separator and one word further (`reached-separator`, `reached-word`). Assumes
+-- nothing.
 use mathlib.Core.Path.{_≡_, refl, sym, _∙_, ap, subst}
 use mathlib.Core.Bool.{Bool, true, false}
 use mathlib.Core.List.{List, [], _∷_, _++_, append-assoc, append-nil}
@@ -18,7 +19,7 @@ use Rattle.typed.proofs.Runs.{run-token}
 use Rattle.typed.proofs.Sayings.{says-only}
 
 -- ── closed texts ──
-closed-append : {a b : List ℕ} {ws vs : List ℤ} → Closed a ws → Closed b vs → Closed (a ++ b) (ws ++ vs)
+pub closed-append : {a b : List ℕ} {ws vs : List ℤ} → Closed a ws → Closed b vs → Closed (a ++ b) (ws ++ vs)
 closed-append nothing d = d
 closed-append (separator e c) d = separator e (closed-append c d)
 closed-append {b = b} {vs = vs} (word {token} {z} s {bs} {words} a e c) d =
@@ -40,6 +41,17 @@ module _ {token : List ℕ} {z : ℤ} (a : Allowed token z) where
   pub allowed-some : 1 ≤ length token
   allowed-some = omega (arith, ap length (a .spelled), length-append (sign (a .minus)) (a .digits), a .some)
 
+-- ── one token ──
+pub skip-one : (i b : ℕ) (bs : List ℕ) → isSeparator b ≡ true → tokensFrom true i (b ∷ bs) ≡ tokensFrom true (suc i) bs
+unfolding tokensFrom
+skip-one i b bs e = rw e
+
+-- a token and the separator behind it
+pub past-token : (i : ℕ) (token : List ℕ) (b : ℕ) (after : List ℕ) → 1 ≤ length token → Passing inToken token → isSeparator b ≡ true
+    → tokensFrom true i (token ++ (b ∷ after)) ≡ placed i token ∷ tokensFrom true (suc (i + length token)) after
+past-token i token b after some bytes e =
+    run-token i token (b ∷ after) some bytes e ∙ ap (λ (ts : List Token). placed i token ∷ ts) (skip-one (i + length token) b after e)
+
 -- ── reading from a place on ──
 -- what is read behind some words
 abbrev pub behind : List ℤ → Read (List ℤ) → Read (List ℤ)
@@ -57,10 +69,6 @@ pub word-behind : (words : List ℤ) (z : ℤ) (x : Read (List ℤ)) → behind 
 word-behind words z (refused m i) = refl
 word-behind words z (got zs) = ap got (sym (append-assoc words (z ∷ []) zs))
 
-pub skip-one : (i b : ℕ) (bs : List ℕ) → isSeparator b ≡ true → tokensFrom true i (b ∷ bs) ≡ tokensFrom true (suc i) bs
-unfolding tokensFrom
-skip-one i b bs e = rw e
-
 closed-reads : {before : List ℕ} {words : List ℤ} → Closed before words → (i : ℕ) (rest : List ℕ) (room : ℕ) → length words ≤ room
     → readTokens room (tokensFrom true i (before ++ rest)) ≡ behind words (readTokens (room - length words) (tokensFrom true (i + length before) rest))
 closed-reads nothing i rest room h =
@@ -77,9 +85,7 @@ closed-reads (word {token} {z} b {bs} {words} a e c) i rest room h =
     let k : room - 1 - length words ≡ room - suc (length words) = omega arith in
     let j : suc (i + length token) + length bs ≡ i + length (token ++ (b ∷ bs)) = omega (arith, length-append token (b ∷ bs)) in
     ap (readTokens room)
-    (ap (tokensFrom true i) (append-assoc token (b ∷ bs) rest)
-    ∙ run-token i token (b ∷ (bs ++ rest)) (allowed-some a) (allowed-bytes a) e
-    ∙ ap (λ (l : List Token). t ∷ l) (skip-one (i + length token) b (bs ++ rest) e))
+    (ap (tokensFrom true i) (append-assoc token (b ∷ bs) rest) ∙ past-token i token b (bs ++ rest) (allowed-some a) (allowed-bytes a) e)
     ∙ got-one t ts z (says-only i token (got z) a) room (omega arith)
     ∙ ap (λ (x : Read (List ℤ)). then x λ zs. got (z ∷ zs)) (closed-reads c (suc (i + length token)) rest (room - 1) (omega arith))
     ∙ behind-word z words (readTokens (room - 1 - length words) (tokensFrom true (suc (i + length token) + length bs) rest))

@@ -72,6 +72,10 @@ tokensFrom fresh i (b ∷ bs) =
 abbrev pub tokens : List ℕ → List Token
 tokens text = tokensFrom true 0 text
 
+-- the tokens from a place on, at which none is going on; none behind the text's end
+abbrev pub tokensAt : List ℕ → ℕ → List Token
+tokensAt text i = tokensFrom true i (drop i text)
+
 -- ── one token ──
 -- "A token is an optional minus and 1 to 10 digits": whether there is a minus, the byte 45, and what stands behind it
 abbrev pub hasMinus : List ℕ → Bool

@@ -1,6 +1,6 @@
 // One token: an optional minus and 1 to 10 digits, whose value fits a word.
 ghost use mathlib.Core.Path.{_≡_};
-ghost use Prim.Native.Nat.{_+_, _≤_, _<_};
+ghost use Prim.Native.Nat.{_+_, _^_, _≤_, _<_};
 ghost use lib.ListN.{length};
 ghost use Rattle.typed.specs.Text.{digitsIn, decimal, signed, numberOf, valueOf, placed};
 ghost use Rattle.typed.specs.Steps.{fitted, Behind, saidAs};
@@ -79,7 +79,7 @@ fn number_of(digits: &[u8], minus: bool, place: usize, first: usize) -> Said
 
 // The token at `place`, whole.
 pub(crate) fn said_by(token: &[u8], place: usize) -> Said
-    requires { ⌜ (0 < length (now token)) × (place + length (now token) ≤ 60000) ⌝ }
+    requires { ⌜ (0 < length (now token)) × (place + length (now token) < 2 ^ 64) ⌝ }
     ensures { λ r. ⌜ saidAs r ≡ valueOf (placed place (now (token .entry))) ⌝ }
 {
     if token[0] == 45 {

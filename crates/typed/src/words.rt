@@ -4,36 +4,11 @@ ghost use Prim.Native.Nat.{_≤_};
 ghost use lib.ListN.{length};
 ghost use Rattle.typed.specs.Text.{tokens, readTokens};
 ghost use Rattle.typed.specs.Answer.{readingOf, roomAfter};
-ghost use Rattle.typed.specs.Steps.{NextIs, Taken};
+ghost use Rattle.typed.specs.Steps.{Taken};
 use crate::Mistake;
+use crate::Next;
 use crate::Reading;
-use crate::bytes::separators_end;
-use crate::bytes::token_end;
-use crate::token::Said;
-use crate::token::said_by;
-
-// What comes next: the text's end; a word with the places where its token starts and ends; or a mistake and its place.
-enum Next {
-    End,
-    Found(i32, usize, usize),
-    Bad(Mistake, usize),
-}
-
-// The next token from a place on, at which none is going on.
-fn next_word(text: &[u8], from: usize) -> Next
-    requires { ⌜ (from ≤ length (now text)) × (length (now text) ≤ 60000) ⌝ }
-    ensures { λ r. ⌜ NextIs (now (text .entry)) from r ⌝ }
-{
-    let start = separators_end(text, from);
-    if text.len() <= start {
-        return Next::End;
-    }
-    let end = token_end(text, start);
-    match said_by(&text[start..end], start) {
-        Said::Word(z) => Next::Found(z, start, end),
-        Said::Mistaken(mistake, place) => Next::Bad(mistake, place),
-    }
-}
+use crate::next_word;
 
 // The first pass, for a room of so many words: it writes nothing.
 pub(crate) fn scan(text: &[u8], room: usize) -> Reading

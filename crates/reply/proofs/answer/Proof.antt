@@ -1,6 +1,6 @@
--- `answer` meets its contract: a text that is refused (`replies-refused`), or one whose words are searched and whose answer is printed
--- (`replies-found`). Assumes nothing.
-use Rattle.reply.proofs.Replies.{read-within, replies-refused, replies-found}
+-- `answer` meets its contract: a text that is refused (`replies-refused`), or one whose words are searched (`replies-words`). Assumes
+-- nothing.
+use Rattle.reply.proofs.Replies.{read-within, replies-refused, replies-words}
 use borrow.Author.Needs.{needs}
 use Rattle.reply.proofs.answer.Statement.{statement}
 use Rattle.reply.proofs.answer.Tie as tie
@@ -32,32 +32,23 @@ put-refused-requires c κs = search needs
 enum-known-w : tie.Need-enum-known-w
 enum-known-w c = search needs
 
-plan-room-requires : tie.Need-plan-room-requires
-plan-room-requires c κs = search needs
+sub-searched : tie.Need-sub-searched
+sub-searched c = search needs
 
-sub-least-plan : tie.Need-sub-least-plan
-sub-least-plan c = search needs
+part-searched-start : tie.Need-part-searched-start
+part-searched-start c = search needs
 
-part-least-plan-start : tie.Need-part-least-plan-start
-part-least-plan-start c = search needs
+part-searched-end : tie.Need-part-searched-end
+part-searched-end c = search read-within
 
-part-least-plan-end : tie.Need-part-least-plan-end
-part-least-plan-end c = search read-within
-
-slice-aggregate-least-plan : tie.Need-slice-aggregate-least-plan
-slice-aggregate-least-plan c = search needs
-
-least-plan-requires : tie.Need-least-plan-requires
-least-plan-requires c κs = search needs
-
-print-answer-requires : tie.Need-print-answer-requires
-print-answer-requires c κs = search needs
+searched-requires : tie.Need-searched-requires
+searched-requires c κs = search needs
 
 returns : tie.Need-returns
 returns c = search replies-refused
 
 returns-2 : tie.Need-returns-2
-returns-2 c = search replies-found
+returns-2 c = search replies-words
 
 pub answer-spec : {M : Type 1} → statement M
 answer-spec =
@@ -72,12 +63,9 @@ answer-spec =
     slice-aggregate-put-refused
     put-refused-requires
     enum-known-w
-    plan-room-requires
-    sub-least-plan
-    part-least-plan-start
-    part-least-plan-end
-    slice-aggregate-least-plan
-    least-plan-requires
-    print-answer-requires
+    sub-searched
+    part-searched-start
+    part-searched-end
+    searched-requires
     returns
     returns-2)

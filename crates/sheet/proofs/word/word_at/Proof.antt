@@ -1,66 +1,55 @@
--- One test tells the sign; `-(w + 1)` of a negative word is what its `negsuc` holds.
-use mathlib.Core.Path.{ap, _∙_}
-use native.Mathlib.Omega.{arith}
+-- `word_at` meets its contract: there is no word at the place (`no-word`), or its sign is split off (`word-split`). Assumes nothing.
+use mathlib.Core.Path.{sym, ap, _∙_}
 use borrow.Author.Needs.{needs}
-use mir.Syntax.{w32}
-use mir.Val.{SFits}
-use lib.IntN.{ℤ, pos, natAbs}
 use lib.ListN.{getD}
-use Rattle.sheet.specs.declared.word.Word.the-variants.{Up, Down}
-use Rattle.sheet.proofs.Signed.{Negative, NotNegative, negative, not-negative}
-use Rattle.sheet.proofs.Items.{no-word, word-up, word-down}
+use lib.IntN.{pos}
+use mir.Syntax.{w32}
+use mir.Val.{toZ, ofZ}
+use Rattle.sheet.proofs.Items.{no-word, wordBy, word-split}
 use Rattle.sheet.proofs.word.word_at.Statement.{statement}
 use Rattle.sheet.proofs.word.word_at.Tie as tie
-
-abbrev z : tie.After-w → ℤ
-z c = getD (c .before .before .args .words .now) (c .before .before .args .at) (pos 0)
-
-fit : (c : tie.After-w) → SFits w32 (z c)
-fit c = search needs
-
-below : (c : tie.Then2) → Negative w32 (z (c .before))
-below c = negative w32 (z (c .before)) (fit (c .before)) (c .if2 .taken)
-
-above : (c : tie.Else2) → NotNegative w32 (z (c .before))
-above c = not-negative w32 (z (c .before)) (fit (c .before)) (c .if2 .left)
 
 returns : tie.Need-returns
 returns c = let a = c .before .args in no-word (a .words .now) (a .at) (c .if1 .taken)
 
-mul-w : tie.Need-mul-w
-mul-w c = search needs
+mul-split-sign : tie.Need-mul-split-sign
+mul-split-sign c = search needs
 
-shared-slice-copy-out-w : tie.Need-shared-slice-copy-out-w
-shared-slice-copy-out-w c = search needs
+shared-slice-copy-out-split-sign : tie.Need-shared-slice-copy-out-split-sign
+shared-slice-copy-out-split-sign c = search needs
 
-add-t9 : tie.Need-add-t9
-add-t9 c = below c .sum-fits
+split-sign-requires : tie.Need-split-sign-requires
+split-sign-requires c κs = search needs
 
-sub-t10 : tie.Need-sub-t10
-sub-t10 c = below c .flip-fits
+enum-known-v : tie.Need-enum-known-v
+enum-known-v c = search needs
 
-cast-t11 : tie.Need-cast-t11
-cast-t11 c = rw (below c .value) (tt, record { fits = omega (arith, below c .small) })
-
-cast-t12 : tie.Need-cast-t12
-cast-t12 c = rw (above c .value) (tt, record { fits = omega (arith, above c .small) })
+enum-known-k : tie.Need-enum-known-k
+enum-known-k c = search needs
 
 returns-2 : tie.Need-returns-2
-returns-2 c = let a = c .before .before .before .args in ap (λ (x : ℤ). Down (natAbs x)) (below c .value) ∙ word-down (a .words .now) (a .at) _ (c .before .before .if1 .left) (below c .is)
+returns-2 c =
+    let s = c .before .before .before in
+    let l = s .before .before in
+    let a = l .before .args in
+    sym (ap wordBy (c .before .v .given .1)) ∙ word-split (a .words .now) (a .at) (toZ w32 (ofZ w32 (getD (a .words .now) (a .at) (pos 0)))) (s .split-sign .result) (l .if1 .left) (search needs) (s .split-sign .ensures)
 
 returns-3 : tie.Need-returns-3
-returns-3 c = let a = c .before .before .before .args in ap (λ (x : ℤ). Up (natAbs x)) (above c .value) ∙ word-up (a .words .now) (a .at) _ (c .before .before .if1 .left) (above c .is)
+returns-3 c =
+    let s = c .before .before .before in
+    let l = s .before .before in
+    let a = l .before .args in
+    sym (ap wordBy (c .before .k .given .1)) ∙ word-split (a .words .now) (a .at) (toZ w32 (ofZ w32 (getD (a .words .now) (a .at) (pos 0)))) (s .split-sign .result) (l .if1 .left) (search needs) (s .split-sign .ensures)
 
 pub word-at-spec : {M : Type 1} → statement M
 word-at-spec =
     tie.close
     (tie.spec
     returns
-    mul-w
-    shared-slice-copy-out-w
-    add-t9
-    sub-t10
-    cast-t11
-    cast-t12
+    mul-split-sign
+    shared-slice-copy-out-split-sign
+    split-sign-requires
+    enum-known-v
+    enum-known-k
     returns-2
     returns-3)
