@@ -2,6 +2,9 @@
  * The same walk as the proved one, as one would write it in C for speed: all entries in one run of 16-bit codes, twice the device
  * (from 0) and one more for position 0; where each rule starts; a rule left at its first held entry; devices held and released in
  * place; a plan copied only where a better one is found. No index is checked. Costs are summed in 64 bits.
+ *
+ * Rules that name both positions of a device are met by every plan (02, request 3): they are left out when the sheet is coded. The walk
+ * of the request before is the same code without that.
  */
 #include "walk.h"
 
@@ -19,21 +22,35 @@ struct walk {
     uint16_t codes[16384];
 };
 
-static void code_sheet(struct walk *w, const int32_t *words)
+/* Each code has a stamp, the number from 1 of the last rule in which it stood; the two codes of a device differ in their last bit. */
+static inline void code_sheet(struct walk *w, const int32_t *words, int leaves_out)
 {
-    size_t n = (size_t)words[0], m = (size_t)words[n + 1], at = n + 2, next = 0;
+    size_t n = (size_t)words[0], m = (size_t)words[n + 1], at = n + 2, next = 0, rules = 0;
+    uint16_t stamps[400];
     w->devices = n;
-    w->rules = m;
     for (size_t v = 0; v < n; v++)
         w->costs[v] = (uint32_t)words[1 + v];
-    for (size_t r = 0; r < m; r++) {
-        w->starts[r] = (uint16_t)next;
+    if (leaves_out)
+        memset(stamps, 0, 2 * n * sizeof stamps[0]);
+    for (size_t r = 1; r <= m; r++) {
+        size_t start = next;
+        int both = 0;
         for (int32_t left = words[at++]; left > 0; left--) {
             int32_t e = words[at++];
-            w->codes[next++] = (uint16_t)(e > 0 ? 2 * (e - 1) : 2 * (-e - 1) + 1);
+            unsigned code = (unsigned)(e > 0 ? 2 * (e - 1) : 2 * (-e - 1) + 1);
+            w->codes[next++] = (uint16_t)code;
+            if (leaves_out) {
+                stamps[code] = (uint16_t)r;
+                both |= stamps[code ^ 1] == r;
+            }
         }
+        if (both)
+            next = start;
+        else
+            w->starts[rules++] = (uint16_t)start;
     }
-    w->starts[m] = (uint16_t)next;
+    w->starts[rules] = (uint16_t)next;
+    w->rules = rules;
 }
 
 /* The number of the first rule that the plan does not meet, or of rules. */
@@ -96,27 +113,42 @@ static int walk_node(struct walk *w, uint64_t cost, uint32_t held)
     return 1;
 }
 
+/* Walks the coded sheet. */
+static void walk_sheet(struct walk *w, uint32_t budget, uint8_t *room, uint64_t numbers[4])
+{
+    memset(w->plan, 0, sizeof w->plan);
+    w->budget = budget;
+    w->count = 0;
+    w->found = 0;
+    if (!walk_node(w, 0, 0)) {
+        numbers[0] = 2;
+        numbers[1] = w->count;
+    } else if (!w->found) {
+        numbers[0] = 1;
+        numbers[1] = w->count;
+    } else {
+        memcpy(room, w->best, w->devices);
+        numbers[0] = 0;
+        numbers[1] = w->best_cost;
+        numbers[2] = w->best_held;
+        numbers[3] = w->count;
+    }
+}
+
 void walk_search(const int32_t *words, size_t words_len, uint32_t budget, uint8_t *room, size_t room_len, uint64_t numbers[4])
 {
     struct walk w;
     (void)words_len;
     (void)room_len;
-    code_sheet(&w, words);
-    memset(w.plan, 0, sizeof w.plan);
-    w.budget = budget;
-    w.count = 0;
-    w.found = 0;
-    if (!walk_node(&w, 0, 0)) {
-        numbers[0] = 2;
-        numbers[1] = w.count;
-    } else if (!w.found) {
-        numbers[0] = 1;
-        numbers[1] = w.count;
-    } else {
-        memcpy(room, w.best, w.devices);
-        numbers[0] = 0;
-        numbers[1] = w.best_cost;
-        numbers[2] = w.best_held;
-        numbers[3] = w.count;
-    }
+    code_sheet(&w, words, 1);
+    walk_sheet(&w, budget, room, numbers);
+}
+
+void walk_search_before(const int32_t *words, size_t words_len, uint32_t budget, uint8_t *room, size_t room_len, uint64_t numbers[4])
+{
+    struct walk w;
+    (void)words_len;
+    (void)room_len;
+    code_sheet(&w, words, 0);
+    walk_sheet(&w, budget, room, numbers);
 }

@@ -7,4 +7,7 @@
 
 void walk_search(const int32_t *words, size_t words_len, uint32_t budget, uint8_t *room, size_t room_len, uint64_t numbers[4]);
 
+/* As it was before request 3 of document 02: a rule that names both positions of a device is tested and branched on like any other. */
+void walk_search_before(const int32_t *words, size_t words_len, uint32_t budget, uint8_t *room, size_t room_len, uint64_t numbers[4]);
+
 #endif

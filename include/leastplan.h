@@ -47,7 +47,8 @@ enum {
 };
 
 /*
- * Finds the least plan of the sheet in words[0] to words[words_len - 1], and opens at most budget trial plans for it.
+ * Finds the least plan of the sheet in words[0] to words[words_len - 1], and opens at most budget trial plans for it. A plan meets
+ * a rule where it holds a device as an entry of the rule says; a rule with both entries of one device is met by every plan.
  *
  * The answer goes to the front of numbers, code first:
  *

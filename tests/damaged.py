@@ -4,7 +4,8 @@
     tests/damaged.py > crates/damaged/stdout
 
 Document 01, "The hall sheet", "The answer sheet of the search" and "Sheets typed as text". Nothing here is taken from the Rattle
-sources or from a run of them.
+sources or from a run of them. Request 3 changes what meets a rule and not which rules are good: among the sheets below is one with
+the rule 1 -1.
 """
 
 FOUR = [4, 5, 2, 4, 3, 3, 2, 1, 2, 2, -2, 3, 2, -1, 4]

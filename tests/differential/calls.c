@@ -77,6 +77,10 @@ struct reference_answer compare(const struct sheet *s, uint32_t budget)
     tally.later_rule += a.number[0] == 19 && a.number[2] > 1;
     tally.by_number += a.by_number;
     tally.by_marks += a.by_marks;
+    if (a.both_rules > 0) {
+        tally.both_by_code[a.number[0]]++;
+        tally.both_exact_room += a.number[0] <= 2 && s->room == (size_t)s->word[0];
+    }
     if (memcmp(room, room_expected, sizeof room) == 0 && memcmp(numbers, numbers_expected, sizeof numbers) == 0 &&
         memcmp(words, s->word, s->words * sizeof words[0]) == 0)
         tally.passed++;
@@ -129,5 +133,6 @@ void compare_text(const struct text *t, uint32_t most)
     }
     tally.texts++;
     tally.by_printed[a.number[0]]++;
+    tally.both_by_printed[a.number[0]] += a.both_rules > 0;
     compare_printed(t, &a, leastplan_answer);
 }

@@ -14,6 +14,8 @@ struct tally {
     unsigned long texts, by_printed[25], left_out;
     unsigned long readings, by_reading[34], later_clause, beyond_limit, exact_room, room_of_0, read_back;
     unsigned long files, by_file[34], files_left_out;
+    /* those of a sheet, text or file in which a rule names both positions of a device */
+    unsigned long both_by_code[20], both_exact_room, both_by_printed[25], both_by_file[34], both_file_spent;
 };
 
 extern struct tally tally;

@@ -4,16 +4,19 @@
  *
  *   compare [SEED [SHEETS]]
  *
- * An accepted sheet is called again with the budget that its walk needs and with one less. Then the sheet is typed as text, sometimes
- * damaged, and what leastplan_answer prints is compared with what the reference reads, finds and prints. Files are a third as many as
- * sheets; each is read into several rooms, and what leastplan_cnf_answer prints is compared too.
+ * An accepted sheet is called again with the budget that its walk needs and with one less, and without the rules that name both
+ * positions of a device. Then the sheet is typed as text, sometimes damaged, and what leastplan_answer prints is compared with what the
+ * reference reads, finds and prints. Files are a third as many as sheets; each is read into several rooms, what leastplan_cnf_answer
+ * prints is compared too, and so is the search of what was read.
  */
+#include "both.h"
 #include "calls.h"
 #include "draw.h"
 #include "file_calls.h"
 #include "files.h"
 #include "known.h"
 #include "known_files.h"
+#include "seen.h"
 
 #include <stdio.h>
 #include <stdlib.h>
@@ -21,47 +24,23 @@
 
 enum { LEAST_OF_EACH = 500 };
 
-/* ---- what the made sheets have to hold */
+static unsigned long accepted, exact, budget_0, as_without;
 
-static unsigned long with_empty, with_repeat, with_both, with_zero_cost, with_200;
-
-static void look_at(const struct sheet *s)
+/* 02, request 3: "From now on every plan meets such a rule": so the sheet without these rules has the same answer, plan and count. */
+static void compare_without_both(const struct sheet *s, uint32_t budget, const struct reference_answer *a)
 {
-    int empty = 0, repeat = 0, both = 0, zero = 0;
-    for (size_t i = 0; i < s->words; i++) {
-        if (s->is[i] == 'c')
-            zero |= s->word[i] == 0;
-        if (s->is[i] != 'w')
-            continue;
-        int width = s->word[i];
-        empty |= width == 0;
-        for (int j = 1; j <= width; j++)
-            for (int k = 1; k < j; k++) {
-                repeat |= s->word[i + (size_t)j] == s->word[i + (size_t)k];
-                both |= s->word[i + (size_t)j] == -s->word[i + (size_t)k];
-            }
-    }
-    with_empty += (unsigned)empty;
-    with_repeat += (unsigned)repeat;
-    with_both += (unsigned)both;
-    with_zero_cost += (unsigned)zero;
-    with_200 += s->devices == 200;
-}
-
-static void demand(const char *what, unsigned long count, unsigned long least)
-{
-    printf("%10lu  %s\n", count, what);
-    if (count >= least)
+    static struct sheet without;
+    without_both(s, &without);
+    struct reference_answer b = compare(&without, budget);
+    as_without++;
+    if (b.both_rules == 0 && b.numbers == a->numbers && memcmp(b.number, a->number, (size_t)b.numbers * sizeof b.number[0]) == 0 &&
+        b.devices == a->devices && memcmp(b.plan, a->plan, (size_t)b.devices) == 0)
         tally.passed++;
     else {
         tally.failed++;
-        printf("FAILED: fewer than %lu\n", least);
+        puts("FAILED: the reference answers otherwise without the rules that name both positions");
     }
 }
-
-/* ---- all of it */
-
-static unsigned long accepted, exact, budget_0;
 
 /* A sheet under several budgets. */
 static void compare_sheet(const struct sheet *s, uint32_t most)
@@ -75,6 +54,8 @@ static void compare_sheet(const struct sheet *s, uint32_t most)
         return;
     accepted++;
     look_at(s);
+    if (a.both_rules > 0)
+        compare_without_both(s, most, &a);
     if (a.number[0] == 2)
         return;
     uint32_t needed = (uint32_t)a.number[a.numbers - 1];
@@ -124,16 +105,24 @@ static void compare_files(unsigned long files)
     }
 }
 
+static void compare_long_text(int rules, int both)
+{
+    static struct sheet s;
+    static struct text t;
+    doubling_sheet(&s, rules, both);
+    text_of(&s, &t);
+    compare_text(&t, BUDGET);
+}
+
 /* Half a million nodes, and more than the program's budget. */
 static void compare_long_walks(void)
 {
     static struct sheet s;
     static struct text t;
-    for (int rules = 18; rules <= 19; rules++) {
-        doubling_sheet(&s, rules);
-        text_of(&s, &t);
-        compare_text(&t, BUDGET);
-    }
+    compare_long_text(18, 0);
+    compare_long_text(18, 1);
+    compare_long_text(19, 1);
+    doubling_sheet(&s, 19, 1);
     file_of(&s, &t);
     compare_file(&t, BUDGET);
 }
@@ -143,6 +132,44 @@ static void compare_long_walks(void)
 static const char *const meaning[34] = {"least", "none", "spent", [11] = "refused 11", "refused 12", "refused 13", "refused 14", "refused 15", "refused 16",
                                         "refused 17", "refused 18", "refused 19", [21] = "refused 21", "refused 22", "refused 23", "refused 24",
                                         [31] = "refused 31", "refused 32", "refused 33"};
+
+static void demand(const char *what, unsigned long count, unsigned long least)
+{
+    printf("%10lu  %s\n", count, what);
+    if (count >= least)
+        tally.passed++;
+    else {
+        tally.failed++;
+        printf("FAILED: fewer than %lu\n", least);
+    }
+}
+
+/* The answers of request 3: to sheets, texts or files in which a rule names both positions of a device. */
+static void demand_both(const char *to, const unsigned long *by_code, unsigned long least_spent)
+{
+    char what[80];
+    for (int code = 0; code <= 2; code++) {
+        snprintf(what, sizeof what, "%s, to a %s with both positions of a device in a rule", meaning[code], to);
+        demand(what, by_code[code], code == 2 ? least_spent : LEAST_OF_EACH);
+    }
+}
+
+static void demand_both_sheets(void)
+{
+    demand("accepted with both positions of a device in a rule", seen.with_both, LEAST_OF_EACH);
+    demand("of them in the first rule", seen.both_in_first, LEAST_OF_EACH);
+    demand("in the last rule", seen.both_in_last, LEAST_OF_EACH);
+    demand("in every rule", seen.both_in_all, LEAST_OF_EACH);
+    demand("in the only rule", seen.both_in_only, LEAST_OF_EACH);
+    demand("in a rule of width 32", seen.both_in_wide, LEAST_OF_EACH);
+    demand("in a rule with a repeated entry", seen.both_with_repeat, LEAST_OF_EACH);
+    demand("in a rule with a device that a rule of one entry before it holds", seen.both_with_held, LEAST_OF_EACH);
+    demand("in a sheet with an empty rule", seen.both_with_empty, LEAST_OF_EACH);
+    demand("answered as the sheet without these rules", as_without, LEAST_OF_EACH);
+    demand_both("sheet", tally.both_by_code, LEAST_OF_EACH);
+    demand("searches of such a sheet with a plan room exactly long enough", tally.both_exact_room, LEAST_OF_EACH);
+    demand("refused 16, of such a sheet", tally.both_by_code[16], LEAST_OF_EACH);
+}
 
 static void demand_sheets(unsigned long sheets)
 {
@@ -154,11 +181,11 @@ static void demand_sheets(unsigned long sheets)
     demand("refused 19 of a rule behind the first", tally.later_rule, LEAST_OF_EACH);
     demand("called with exactly the budget needed, and with one less", exact, LEAST_OF_EACH);
     demand("called with budget 0", budget_0, LEAST_OF_EACH);
-    demand("accepted with 200 devices", with_200, LEAST_OF_EACH);
-    demand("accepted with a zero cost", with_zero_cost, LEAST_OF_EACH);
-    demand("accepted with an empty rule", with_empty, LEAST_OF_EACH);
-    demand("accepted with a repeated entry in a rule", with_repeat, LEAST_OF_EACH);
-    demand("accepted with both positions of a device in a rule", with_both, LEAST_OF_EACH);
+    demand("accepted with 200 devices", seen.with_200, LEAST_OF_EACH);
+    demand("accepted with a zero cost", seen.with_zero_cost, LEAST_OF_EACH);
+    demand("accepted with an empty rule", seen.with_empty, LEAST_OF_EACH);
+    demand("accepted with a repeated entry in a rule", seen.with_repeat, LEAST_OF_EACH);
+    demand_both_sheets();
     demand("plans of equal cost told apart by the held number", tally.by_number, LEAST_OF_EACH);
     demand("plans of equal cost and number told apart by the marks", tally.by_marks, LEAST_OF_EACH);
 }
@@ -169,6 +196,7 @@ static void demand_texts(void)
     for (int code = 0; code < 25; code++)
         if (meaning[code] && code != 16 && code != 17) /* the program has room for every plan, and 24 comes before 17 */
             demand(meaning[code], tally.by_printed[code], code == 2 ? 1 : LEAST_OF_EACH);
+    demand_both("text", tally.both_by_printed, 1);
 }
 
 /* A file has no costs and no widths, and its reader leaves nothing of the sheet missing or over. */
@@ -193,6 +221,8 @@ static void demand_files(void)
     for (int code = 0; code < 34; code++)
         if (code <= 2 || of_a_file(code))
             demand(meaning[code], tally.by_file[code], code == 2 ? 1 : LEAST_OF_EACH);
+    demand_both("file", tally.both_by_file, 1);
+    demand("spent, to the sheet read from such a file", tally.both_file_spent, LEAST_OF_EACH);
 }
 
 int main(int argc, char **argv)

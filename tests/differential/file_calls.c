@@ -1,6 +1,6 @@
 /*
- * The library beside the reference on a DIMACS CNF file: the numbers, the whole room with what lies around it, the file itself; and
- * what is printed.
+ * The library beside the reference on a DIMACS CNF file: the numbers, the whole room with what lies around it, the file itself; what is
+ * printed; and the search of what was read.
  */
 #include "file_calls.h"
 
@@ -123,6 +123,16 @@ static struct reference_answer answer_to(const struct text *t, uint32_t budget)
     return a;
 }
 
+/* A caller may search what was read under any budget. The plan room is exactly long enough. */
+static void compare_search(const struct text *t, uint32_t needed)
+{
+    static struct sheet s;
+    s.words = reference_cnf_read(t->byte, t->bytes, s.word, MOST_WORDS).number[1];
+    s.room = (size_t)s.word[0];
+    compare(&s, needed);
+    tally.both_file_spent += compare(&s, needed - 1).both_rules > 0;
+}
+
 struct reference_answer compare_file(const struct text *t, uint32_t most)
 {
     struct reference_answer a = answer_to(t, most);
@@ -132,6 +142,9 @@ struct reference_answer compare_file(const struct text *t, uint32_t most)
     }
     tally.files++;
     tally.by_file[a.number[0]]++;
+    tally.both_by_file[a.number[0]] += a.both_rules > 0;
     compare_printed(t, &a, leastplan_cnf_answer);
+    if (a.number[0] < 2)
+        compare_search(t, (uint32_t)a.number[a.numbers - 1]);
     return a;
 }

@@ -15,7 +15,10 @@ void compare_rooms(const struct text *t);
 /* Whether the file is read back as the sheet that it was made of. */
 void compare_with_sheet(const struct text *t, const struct sheet *s);
 
-/* What is printed for a file; returns the reference's answer. Left out where a budget smaller than the program's is spent. */
+/*
+ * What is printed for a file, and where its walk comes to its end the search of the sheet that is read from it, under the budget needed
+ * and under one less; returns the reference's answer. Left out where a budget smaller than the program's is spent.
+ */
 struct reference_answer compare_file(const struct text *t, uint32_t most);
 
 #endif

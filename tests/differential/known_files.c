@@ -1,5 +1,5 @@
 /*
- * Files that show the sentences of request 2 of document 02: each with a room, what reading it into that room comes to, and what
+ * Files that show the sentences of requests 2 and 3 of document 02: each with a room, what reading it into that room comes to, and what
  * cnfplan prints for it.
  */
 #include "known_files.h"
@@ -80,6 +80,16 @@ static const struct row rows[] = {
     {EIGHT_WORDS, 3, 2, {24, 8}, "none 3\n"},
     {EIGHT_WORDS, 2, 2, {24, 6}, "none 3\n"},
     {EIGHT_WORDS, 0, 2, {24, 6}, "none 3\n"},
+    /* a clause that names both positions of a variable */
+    {"p cnf 1 1\n1 -1 0\n", 6, 2, {0, 6}, "least 0 0 1\nhold\n"},
+    {"p cnf 1 1\n1 -1 0\n", 5, 2, {24, 12}, "least 0 0 1\nhold\n"},
+    {"p cnf 2 2\n1 -1 0\n2 0\n", 9, 2, {0, 9}, "least 1 1 2\nhold 2\n"},
+    {"p cnf 2 2\n2 0\n-1 -1 1 1 0\n", 11, 2, {0, 11}, "least 1 1 2\nhold 2\n"},
+    {"p cnf 2 1\n0001\n2\n-01 00", 8, 2, {0, 8}, "least 0 0 1\nhold\n"},
+    {"p cnf 1 2 1 -1 0 -1 0", 8, 2, {0, 8}, "least 1 1 2\nhold -1\n"},
+    {"p cnf 1 2\n-1 1 -1 0\n0\n", 8, 2, {0, 8}, "none 1\n"},
+    {"p cnf 1 3\n1 -1 0\n1 0\n-1 0\n", 10, 2, {0, 10}, "none 2\n"},
+    {"p cnf 33 2\n-32 " ENTRIES_32 "0\n0", 99, 3, {19, 99, 1}, "refused 19 99 1\n"},
 };
 
 void known_files(void)

@@ -1,6 +1,6 @@
 /*
- * A reference for the search of document 01, with request 1 of document 02, written to be held against the documents sentence by
- * sentence. Each node of the walk has a plan of its own; cost and held number are summed anew wherever they are asked for. Nothing
+ * A reference for the search of document 01, with requests 1 and 3 of document 02, written to be held against the documents sentence
+ * by sentence. Each node of the walk has a plan of its own; cost and held number are summed anew wherever they are asked for. Nothing
  * here is made for speed.
  */
 #include "reference.h"
@@ -14,6 +14,8 @@ struct sheet {
     const int32_t *cost; /* cost[v] for device v; before them, at 0, stands the device count */
     int32_t rules;
     const int32_t *rule[2000]; /* of each rule: at 0 the width, from 1 on the entries */
+    bool has_both[2000];       /* of each rule: whether it holds both entries of one device */
+    int both_rules;            /* how many rules do, of those read so far */
 };
 
 /* How far the sheet has been read, the number of the rule at hand, and the first fault. */
@@ -59,6 +61,16 @@ static bool read_rule(struct reader *r, int32_t devices)
     return true;
 }
 
+/* 02, request 3: "a rule holding both entries of one device" */
+static bool has_both_entries(const int32_t *rule)
+{
+    for (int e = 1; e <= rule[0]; e++)
+        for (int f = e + 1; f <= rule[0]; f++)
+            if (rule[f] == -rule[e])
+                return true;
+    return false;
+}
+
 /* The order: 17; the sheet from left to right; 15; 16. */
 static bool read_sheet(struct reader *r, struct sheet *s, size_t room)
 {
@@ -77,6 +89,8 @@ static bool read_sheet(struct reader *r, struct sheet *s, size_t room)
         s->rule[i] = r->word + r->next;
         if (!read_rule(r, s->devices))
             return false;
+        s->has_both[i] = has_both_entries(s->rule[i]);
+        s->both_rules += s->has_both[i];
     }
     if (r->next < r->words)
         return refuse(r, 15, r->next);
@@ -104,7 +118,8 @@ static unsigned char mark_of(int32_t entry)
     return entry > 0 ? HELD_AT_1 : HELD_AT_0;
 }
 
-static bool meets_rule(const struct plan *p, const int32_t *rule)
+/* 01: "one of the rule's entries names a device held at that position" */
+static bool holds_an_entry(const struct plan *p, const int32_t *rule)
 {
     for (int e = 1; e <= rule[0]; e++)
         if (p->mark[device_of(rule[e])] == mark_of(rule[e]))
@@ -112,11 +127,17 @@ static bool meets_rule(const struct plan *p, const int32_t *rule)
     return false;
 }
 
+/* 02, request 3: "From now on every plan meets such a rule". */
+static bool meets_rule(const struct sheet *s, const struct plan *p, int i)
+{
+    return s->has_both[i] || holds_an_entry(p, s->rule[i]);
+}
+
 /* NULL where the plan meets every rule. */
 static const int32_t *first_rule_not_met(const struct sheet *s, const struct plan *p)
 {
     for (int i = 0; i < s->rules; i++)
-        if (!meets_rule(p, s->rule[i]))
+        if (!meets_rule(s, p, i))
             return s->rule[i];
     return NULL;
 }
@@ -249,13 +270,9 @@ static struct reference_answer least_answer(const struct sheet *s, const struct 
     return a;
 }
 
-struct reference_answer reference(const int32_t *word, size_t words, uint32_t budget, size_t room)
+static struct reference_answer walked_answer(const struct sheet *s, uint32_t budget)
 {
-    struct reader r = {.word = word, .words = words};
-    struct sheet s;
-    if (!read_sheet(&r, &s, room))
-        return refused_answer(&r);
-    struct walk w = {.sheet = &s, .budget = budget};
+    struct walk w = {.sheet = s, .budget = budget};
     struct plan first = {{FREE}};
     bool spent = !open_node(&w, &first);
     struct reference_answer a;
@@ -264,8 +281,17 @@ struct reference_answer reference(const int32_t *word, size_t words, uint32_t bu
     else if (!w.has_best)
         a = short_answer(1, w.opened);
     else
-        a = least_answer(&s, &w.best, w.opened);
+        a = least_answer(s, &w.best, w.opened);
     a.by_number = w.by_number;
     a.by_marks = w.by_marks;
+    return a;
+}
+
+struct reference_answer reference(const int32_t *word, size_t words, uint32_t budget, size_t room)
+{
+    struct reader r = {.word = word, .words = words};
+    struct sheet s = {.both_rules = 0};
+    struct reference_answer a = read_sheet(&r, &s, room) ? walked_answer(&s, budget) : refused_answer(&r);
+    a.both_rules = s.both_rules;
     return a;
 }

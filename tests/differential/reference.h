@@ -1,4 +1,4 @@
-/* The answers of document 01, with requests 1 and 2 of document 02, by the reference. */
+/* The answers of document 01, with requests 1 to 3 of document 02, by the reference. */
 #ifndef REFERENCE_H
 #define REFERENCE_H
 
@@ -13,6 +13,7 @@ struct reference_answer {
     unsigned char plan[200]; /* code 0: 0 free, 1 held at 1, 2 held at 0 */
     /* of a search: how often two plans of equal cost were told apart by the held number, and by the marks */
     uint64_t by_number, by_marks;
+    int both_rules; /* of the rules that were read whole: how many hold both entries of one device */
 };
 
 /* A sheet of so many words, under a budget, with a plan room of so many bytes. */

@@ -1,12 +1,13 @@
 /*
  * Sheets made from a seed: small ones that are walked to their end, larger ones up to every limit of document 01, and damaged ones
- * for each of its refusals.
+ * for each of its refusals. Those whose rules name both positions of a device are in both.c.
  */
 #include "sheets.h"
 
+#include "both.h"
 #include "draw.h"
 
-static void put(struct sheet *s, char is, int32_t w)
+void put(struct sheet *s, char is, int32_t w)
 {
     s->is[s->words] = is;
     s->word[s->words++] = w;
@@ -41,7 +42,7 @@ static void put_rule(struct sheet *s, int n, int width, int odd)
     }
 }
 
-static void begin(struct sheet *s, int n, int cost_kind)
+void begin(struct sheet *s, int n, int cost_kind)
 {
     s->words = 0;
     s->devices = n;
@@ -104,12 +105,16 @@ static void full_sheet(struct sheet *s)
 void any_sheet(struct sheet *s)
 {
     int k = below(1000);
-    if (k < 760)
+    if (k < 660)
         small_sheet(s);
+    else if (k < 760)
+        both_sheet(s);
     else if (k < 940)
         medium_sheet(s);
-    else if (k < 996)
+    else if (k < 993)
         large_sheet(s);
+    else if (k < 996)
+        full_both_sheet(s);
     else
         full_sheet(s);
 }
@@ -124,15 +129,22 @@ void random_words(struct sheet *s)
         put(s, 'x', one_in(8) ? (int32_t)draw() : from_to(-2, 4));
 }
 
+static void put_two(struct sheet *s, int32_t one, int32_t other)
+{
+    put(s, 'w', 2);
+    put(s, 'e', one);
+    put(s, 'e', other);
+}
+
 /* Rules of width 2 without a common device, all costs 1: every plan of fewer holds than rules is branched on. */
-void doubling_sheet(struct sheet *s, int rules)
+void doubling_sheet(struct sheet *s, int rules, int both)
 {
     begin(s, 2 * rules, 1);
-    put(s, 'm', rules);
-    for (int i = 0; i < rules; i++) {
-        put(s, 'w', 2);
-        put(s, 'e', 2 * i + 1);
-        put(s, 'e', -(2 * i + 2));
+    put(s, 'm', both ? 2 * rules : rules);
+    for (int v = 1; v < 2 * rules; v += 2) {
+        if (both)
+            put_two(s, v, -v);
+        put_two(s, v, -(v + 1));
     }
 }
 

@@ -17,9 +17,15 @@ struct sheet {
 
 void any_sheet(struct sheet *s);
 void random_words(struct sheet *s); /* words that follow no plan */
-void doubling_sheet(struct sheet *s, int rules); /* a walk of 2^(rules + 1) - 1 nodes */
 void crowded_sheet(struct sheet *s, size_t words); /* so many words, at least 12, of a few devices and wide rules */
 void damage_sheet(struct sheet *s);
+
+/* A walk of 2^(rules + 1) - 1 nodes; in front of each of these rules there may be one that names both positions of a device. */
+void doubling_sheet(struct sheet *s, int rules, int both);
+
+/* What all makers of sheets begin with: the devices with their costs, of one of six kinds; and one word more. */
+void begin(struct sheet *s, int devices, int cost_kind);
+void put(struct sheet *s, char is, int32_t w);
 
 size_t place_of(const struct sheet *s, char is); /* a place whose word is of this kind, or the sheet's length where there is none */
 int32_t outside(int32_t high);                   /* a count outside 0 to high */

@@ -4,8 +4,9 @@
     tests/solvers/files.py FOLDER SEED FILES
 
 writes FOLDER/0001.cnf and so on. The clauses are such that the walk of document 01 comes to its end within 1,000,000 trial plans:
-where the widest clause has k entries, and d is the smaller of the numbers of variables and clauses, 1 + k + .. + k^d is less. About
-half of the files have a plan. No clause has an entry twice; some have both entries of a variable.
+where the widest clause has k entries, and d is the smaller of the numbers of variables and clauses, 1 + k + .. + k^d is less. More
+than half of the files have a plan. No clause has an entry twice. In almost half of the files some clauses have both entries of a
+variable: a solver takes them as true, and every plan meets them (document 02, request 3). Such a file is called FOLDER/0001-both.cnf.
 
 The ways: comments of one or more lines in front, or none; blank lines among them and among the clauses; a clause on a line, over
 several lines, or several on a line; blanks or tabs between numbers, and at either end of a line; two blanks between the counts and
@@ -30,17 +31,26 @@ def walk_bound(variables, clauses, widest):
 # ---- clauses
 
 
-def clause(draw, variables, width):
-    """So many entries, or as many as there are; of each variable one in most clauses."""
-    if draw.random() < 0.05:
-        entries = [e for v in range(1, variables + 1) for e in (v, -v)]
-        return draw.sample(entries, min(width, len(entries)))
+def clause(draw, variables, width, both):
+    """So many entries, or as many as there are; of each variable one, but both of one variable in about so many clauses."""
+    if width > 1 and variables > 0 and draw.random() < both:
+        v = draw.randint(1, variables)
+        others = [e for u in range(1, variables + 1) if u != v for e in (u, -u)]
+        entries = [v, -v] + draw.sample(others, min(width - 2, len(others)))
+        draw.shuffle(entries)
+        return entries
     chosen = draw.sample(range(1, variables + 1), min(width, variables))
     return [v if draw.random() < 0.5 else -v for v in chosen]
 
 
+def has_both(clauses):
+    """Whether a clause has both entries of a variable."""
+    return any(-e in c for c in clauses for e in c)
+
+
 def formula(draw):
     """The number of variables, and clauses, of one of five kinds."""
+    both = draw.choice([0, 0.05, 0.1, 0.3])
     kind = draw.choice(["three", "three", "two", "mixed", "mixed", "long", "tiny"])
     if kind == "three":
         variables = draw.randint(4, 10)
@@ -57,7 +67,7 @@ def formula(draw):
     else:
         variables = draw.randint(0, 3)
         widths = [draw.choice([0, 1, 2, 2, 3]) for _ in range(draw.randint(0, 6))]
-    clauses = [clause(draw, variables, width) for width in widths]
+    clauses = [clause(draw, variables, width, both) for width in widths]
     assert walk_bound(variables, len(clauses), max(map(len, clauses), default=0)) < BUDGET
     return variables, clauses
 
@@ -111,9 +121,8 @@ def typed(draw, numbers, tabs):
     return line
 
 
-def file(draw):
+def file(draw, variables, clauses):
     """The bytes of a file."""
-    variables, clauses = formula(draw)
     tabs, blank_lines = draw.random() < 0.25, draw.random() < 0.3
     end = "\r\n" if draw.random() < 0.3 else "\n"
     lines = front(draw, variables, clauses, end)
@@ -129,8 +138,10 @@ def main():
     folder, seed, files = sys.argv[1], int(sys.argv[2]), int(sys.argv[3])
     draw = random.Random(seed)
     for i in range(1, files + 1):
-        with open(f"{folder}/{i:04}.cnf", "wb") as to:
-            to.write(file(draw))
+        variables, clauses = formula(draw)
+        name = f"{i:04}-both" if has_both(clauses) else f"{i:04}"
+        with open(f"{folder}/{name}.cnf", "wb") as to:
+            to.write(file(draw, variables, clauses))
 
 
 main()

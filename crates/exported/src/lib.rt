@@ -23,8 +23,8 @@ fn tell(told: &[u64], numbers: &mut [u64])
     }
 }
 
-// 01, "The answer sheet of the search", with 02, request 1: the least plan of a sheet, under a budget of trial plans; its marks go to
-// the front of the room, its numbers to `numbers`.
+// 01, "The answer sheet of the search", with 02, requests 1 and 3: the least plan of a sheet, under a budget of trial plans; its marks
+// go to the front of the room, its numbers to `numbers`.
 #[no_mangle]
 pub extern "C" fn leastplan_search(
     words: &[i32],

@@ -1,6 +1,7 @@
 -- The three demands together: `answer` has `Answered`, and no other answer has; and the plan room afterwards.
 --
--- The claims: `answered`, `answered-only`; `room-length`. Assumes nothing.
+-- The walk's theorems speak of its test, the demands of document 000's definition 2: `least-exact` and `none-exact` turn the one
+-- into the other here. The claims: `answered`, `answered-only`; `room-length`. Assumes nothing.
 use mathlib.Core.Path.{_≡_, refl, sym, _∙_, ap, subst}
 use mathlib.Core.List.{List}
 use Prim.Native.Nat.{ℕ, _≤_}
@@ -14,6 +15,7 @@ use Rattle.hall.specs.Ranges.{SheetOf}
 use Rattle.hall.specs.Reading.{Read, bad, got, decode}
 use Rattle.hall.specs.Answer.{Answer, least, none, spent, refused, finished, within, answerRead, answer, roomAfter}
 use Rattle.hall.specs.Demands.{WalkCount, Answered}
+use Rattle.hall.proofs.Satisfied.{least-exact, none-exact}
 use Rattle.hall.proofs.Bound.{opens-most}
 use Rattle.hall.proofs.Equality.{opens-bounded}
 use Rattle.hall.proofs.Least.{best-least, least-best, none-best, best-none}
@@ -27,11 +29,11 @@ module _ (ws : List ℤ) (budget room : ℕ) where
   walk-count h s l = record { walks = refl; bounded = opens-bounded h (s .ranges); allowed = l }
 
   finished-answered : (h : Hall) → SheetOf h ws room → walkHall h .opened ≤ budget → (b : Best) → walkHall h .best ≡ b → Answered ws budget room (finished h (walkHall h .opened) b)
-  finished-answered h s l noneYet e = record { hall = h; sheet = s; plan = none-best h e; count = walk-count h s l }
+  finished-answered h s l noneYet e = record { hall = h; sheet = s; plan = none-exact h (s .ranges .good) .1 (none-best h e); count = walk-count h s l }
   finished-answered h s l (soFar p) e =
       let k = best-least h p e in
       let plan = k .sheet .plan in
-      record { hall = h; sheet = s; plan = k; total = cost-sum p plan; number = held-sum p plan; count = walk-count h s l }
+      record { hall = h; sheet = s; plan = least-exact h (s .ranges .good) p .1 k; total = cost-sum p plan; number = held-sum p plan; count = walk-count h s l }
 
   walk-answered : (h : Hall) → SheetOf h ws room → Ending h budget (walkHall h) → Answered ws budget room (within h budget (walkHall h))
   walk-answered h s (stops l e) = subst (Answered ws budget room) (sym e) (record { hall = h; sheet = s; count = refl; over = l; below = omega (arith, opens-most h) })
@@ -55,12 +57,12 @@ module _ (ws : List ℤ) (budget room : ℕ) where
       let h = s .hall in
       let l : walkHall h .opened ≤ budget = let a = s .count .allowed in let c = s .count .walks in omega arith in
       let plan = s .plan .sheet .plan in
-      answer-is ws room h budget (s .sheet) ∙ enough h budget (walkHall h) l ∙ ap (finished h (walkHall h .opened)) (least-best h p (s .plan))
+      answer-is ws room h budget (s .sheet) ∙ enough h budget (walkHall h) l ∙ ap (finished h (walkHall h .opened)) (least-best h p (least-exact h (s .sheet .ranges .good) p .0 (s .plan)))
       ∙ same-least (cost-sum p plan ∙ sym (s .total)) (held-sum p plan ∙ sym (s .number)) (sym (s .count .walks))
   answered-only (none opened) s =
       let h = s .hall in
       let l : walkHall h .opened ≤ budget = let a = s .count .allowed in let c = s .count .walks in omega arith in
-      answer-is ws room h budget (s .sheet) ∙ enough h budget (walkHall h) l ∙ ap (finished h (walkHall h .opened)) (best-none h (s .plan)) ∙ rw (s .count .walks)
+      answer-is ws room h budget (s .sheet) ∙ enough h budget (walkHall h) l ∙ ap (finished h (walkHall h .opened)) (best-none h (none-exact h (s .sheet .ranges .good) .0 (s .plan))) ∙ rw (s .count .walks)
   answered-only (spent opened) s = answer-is ws room (s .hall) budget (s .sheet) ∙ over (s .hall) budget (walkHall (s .hall)) (s .over) ∙ rw (s .count)
   answered-only (refused f i) s = ap (answerRead budget) (verdict-only ws room (bad f i) s)
 

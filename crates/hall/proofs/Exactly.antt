@@ -11,13 +11,16 @@ use native.Mathlib.Omega.{arith}
 use lib.ListN.{length}
 use lib.IntN.{ℤ}
 use Rattle.hall.specs.Hall.{Hall, Plan}
-use Rattle.hall.specs.Order.{costOf, heldOf, LeastPlan, NoPlan}
+use Rattle.hall.specs.Order.{costOf, heldOf, LeastOf, NoneOf}
+use Rattle.hall.specs.Settings.{Satisfies}
 use Rattle.hall.specs.Walk.{Best, noneYet, soFar, walkHall}
-use Rattle.hall.specs.Ranges.{SheetOf}
+use Rattle.lists.specs.Lists.{Each}
+use Rattle.hall.specs.Ranges.{RuleInRange, SheetOf}
 use Rattle.hall.specs.Reading.{Fault, Read, bad, got, decode}
 use Rattle.hall.specs.Due.{Reason}
 use Rattle.hall.specs.Answer.{Answer, least, none, spent, refused, finished, answerRead, answer}
 use Rattle.hall.specs.Demands.{Answered}
+use Rattle.hall.proofs.Satisfied.{least-exact, none-exact}
 use Rattle.hall.proofs.Least.{best-least, least-best, none-best, best-none}
 use Rattle.hall.proofs.Reasons.{decoded, verdict-only}
 use Rattle.hall.proofs.Budget.{enough, answer-is, spent-exactly}
@@ -48,6 +51,9 @@ module _ (ws : List ℤ) (budget room : ℕ) (a : Answer) (demands : Answered ws
 
   -- ── demands 2 and 3, of an accepted sheet ──
   module _ (h : Hall) (s : SheetOf h ws room) where
+    good : Each (RuleInRange (length (h .costs))) (h .rules)
+    good = s .ranges .good
+
     pub spent-where : (a ≡ spent budget) ↔ (budget < walkHall h .opened)
     spent-where = subst (λ (x : Answer). (x ≡ spent budget) ↔ (budget < walkHall h .opened)) is (spent-exactly ws room h budget s)
 
@@ -55,16 +61,16 @@ module _ (ws : List ℤ) (budget room : ℕ) (a : Answer) (demands : Answered ws
       ended : a ≡ finished h (walkHall h .opened) (walkHall h .best)
       ended = sym is ∙ answer-is ws room h budget s ∙ enough h budget (walkHall h) allowed
 
-      pub least-where : (p : Plan) → (a ≡ least (costOf (h .costs) p) (heldOf p) (walkHall h .opened) p) ↔ LeastPlan h p
-      least-where p = (λ e. go (walkHall h .best) refl (sym ended ∙ e), λ l. ended ∙ ap (finished h (walkHall h .opened)) (least-best h p l))
+      pub least-where : (p : Plan) → (a ≡ least (costOf (h .costs) p) (heldOf p) (walkHall h .opened) p) ↔ LeastOf Satisfies h p
+      least-where p = (λ e. go (walkHall h .best) refl (sym ended ∙ e), λ l. ended ∙ ap (finished h (walkHall h .opened)) (least-best h p (least-exact h good p .0 l)))
         where
-          go : (b : Best) → walkHall h .best ≡ b → finished h (walkHall h .opened) b ≡ least (costOf (h .costs) p) (heldOf p) (walkHall h .opened) p → LeastPlan h p
+          go : (b : Best) → walkHall h .best ≡ b → finished h (walkHall h .opened) b ≡ least (costOf (h .costs) p) (heldOf p) (walkHall h .opened) p → LeastOf Satisfies h p
           go noneYet u e = absurd (let z : _≡_ {A = ℕ} 0 1 = cc in omega arith)
-          go (soFar q) u e = let z : q ≡ p = cc in subst (LeastPlan h) z (best-least h q u)
+          go (soFar q) u e = let z : q ≡ p = cc in subst (LeastOf Satisfies h) z (least-exact h good q .1 (best-least h q u))
 
-      pub none-where : (a ≡ none (walkHall h .opened)) ↔ NoPlan h
-      none-where = (λ e. go (walkHall h .best) refl (sym ended ∙ e), λ n. ended ∙ ap (finished h (walkHall h .opened)) (best-none h n))
+      pub none-where : (a ≡ none (walkHall h .opened)) ↔ NoneOf Satisfies h
+      none-where = (λ e. go (walkHall h .best) refl (sym ended ∙ e), λ n. ended ∙ ap (finished h (walkHall h .opened)) (best-none h (none-exact h good .0 n)))
         where
-          go : (b : Best) → walkHall h .best ≡ b → finished h (walkHall h .opened) b ≡ none (walkHall h .opened) → NoPlan h
-          go noneYet u e = none-best h u
+          go : (b : Best) → walkHall h .best ≡ b → finished h (walkHall h .opened) b ≡ none (walkHall h .opened) → NoneOf Satisfies h
+          go noneYet u e = none-exact h good .1 (none-best h u)
           go (soFar q) u e = absurd (let z : _≡_ {A = ℕ} 0 1 = cc in omega arith)

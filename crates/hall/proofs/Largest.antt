@@ -22,6 +22,7 @@ use Rattle.lists.proofs.Cases.{and-both, Tri, below, level, above, tri}
 use Rattle.lists.proofs.Each.{each-append, each-replicate}
 use Rattle.hall.proofs.Order.{better-irreflexive}
 use Rattle.hall.proofs.Rules.{first, held-meets, single-held}
+use Rattle.hall.proofs.Satisfied.{least-exact}
 use Rattle.hall.proofs.Equality.{opens-exactly, opens-bounded}
 use Rattle.hall.proofs.Answers.{answered-only}
 
@@ -106,7 +107,7 @@ unfolding everyone words wordsOf ruleWords singles heldFrom sumOf
 largest-answer = answered-only (words largest) 1000 200 (least 200000000000 200 201 everyone) (record {
   hall = largest;
   sheet = record { sheet = refl; ranges = in-range; short = omega (arith, size); fits = omega arith };
-  plan = the-least;
+  plan = least-exact largest (in-range .good) everyone .1 the-least;
   total = refl;
   number = refl;
   count = record { walks = sym nodes; bounded = subst (Bounded largest) nodes (opens-bounded largest in-range); allowed = omega arith };

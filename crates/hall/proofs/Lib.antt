@@ -3,9 +3,11 @@ pub mod AnswerTables
 pub mod Order
 pub mod Plans
 pub mod Rules
+pub mod Satisfied
 pub mod Unmet
 pub mod Shut
 pub mod Walks
+pub mod LeftOut
 pub mod Least
 pub mod Bound
 pub mod Apart
@@ -17,6 +19,7 @@ pub mod Sheets
 pub mod Due
 pub mod Reasons
 pub mod Widths
+pub mod Readings
 pub mod Budget
 pub mod Refusals
 pub mod Answers

@@ -2,7 +2,7 @@
 --
 -- In order: `Extends`; what extends costs no less and holds more unless it is the same (`cost-mono`, `held-mono`, `held-more`),
 -- so it is not better (`extended`); every plan extends the one that holds nothing (`extends-none`); holding a free device as the
--- other plan holds it (`extends-hold`, `held-or-free`, `still-held`); the laws of `hold` on a free device (`hold-held`,
+-- other plan holds it (`extends-hold`, `held-or-free`); the laws of `hold` on a free device (`hold-held`,
 -- `hold-holds`, `hold-extends`, `hold-length`, `hold-apart`); plans of a hall (`start-plan`, `hold-plan`). Assumes nothing.
 use mathlib.Core.Path.{_≡_, refl, _∙_}
 use mathlib.Core.Logic.{_⊎_, inl, inr, _≢_}

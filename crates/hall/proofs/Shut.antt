@@ -5,8 +5,9 @@
 --     not-shut      2. a plan that costs no more than the best so far and holds fewer devices is not shut
 --     shut-none     3. where there is no best so far, no plan is shut
 --     shut-best     4. where there is one, a plan is shut by its two numbers and the best's
+--     shut-without  5. the rules that every plan meets shut no plan
 --
--- The walk's theorems know 1 and 2; 3 and 4 are for the code that asks. Another test for closing a node is paid for here: no other
+-- The walk's theorems know 1 and 2; 3 to 5 are for the code that asks. Another test for closing a node is paid for here: no other
 -- proof unfolds `shut` or `closes` but the tables of rows, which compute them. Assumes nothing.
 use mathlib.Core.Path.{_≡_, refl, _∙_}
 use mathlib.Core.Logic.{_⊎_, inl, inr}
@@ -14,7 +15,7 @@ use mathlib.Core.Bool.{true, false, false≢true}
 use mathlib.Core.List.{List, [], _∷_}
 use Prim.Native.Nat.{ℕ, _+_, _≤_, _<_}
 use native.Mathlib.Omega.{arith}
-use Rattle.hall.specs.Hall.{Hall, Plan, meetsAll}
+use Rattle.hall.specs.Hall.{Hall, Plan, meetsAll, without}
 use Rattle.hall.specs.Order.{costOf, heldOf, less, rank, better}
 use Rattle.hall.specs.Walk.{Best, noneYet, soFar, oneMore, closes, shut}
 use Rattle.lists.proofs.Cases.{both, Tri, below, level, above, tri}
@@ -73,3 +74,7 @@ shut-none h p = refl
 pub shut-best : (h : Hall) (p b : Plan) → shut h p (soFar b) ≡ less (costOf (h .costs) b ∷ heldOf b ∷ []) (costOf (h .costs) p ∷ (heldOf p + 1) ∷ [])
 unfolding shut closes oneMore
 shut-best h p b = refl
+
+pub shut-without : (h : Hall) (p : Plan) (b : Best) → shut (without h) p b ≡ shut h p b
+unfolding shut
+shut-without h p b = refl

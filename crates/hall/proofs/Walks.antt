@@ -22,7 +22,7 @@ pub no-child : {A : Type 0} (p : Plan) (e : Entry) → length p ≤ 0 + heldOf p
 no-child p e l f = absurd (omega (arith, hold-held p e f, hold-length p e, held-all (hold p e)))
 
 module _ (c d : Walker) (p : Plan) (same : (e : Entry) (b : Best) → isFree p e ≡ true → c (hold p e) b ≡ d (hold p e) b) where
-  through-same : (es : Rule) (b : Best) → through c p es b ≡ through d p es b
+  pub through-same : (es : Rule) (b : Best) → through c p es b ≡ through d p es b
   unfolding through entryBy
   through-same [] b = refl
   through-same (e ∷ es) b = go (isFree p e) refl (through-same es)
@@ -31,7 +31,7 @@ module _ (c d : Walker) (p : Plan) (same : (e : Entry) (b : Best) → isFree p e
       go true u ih = rw (same e b u) (ap (after (d (hold p e) b)) (ih (d (hold p e) b .best)))
       go false u ih = ih b
 
-  node-same : (h : Hall) (b : Best) → node c h p b ≡ node d h p b
+  pub node-same : (h : Hall) (b : Best) → node c h p b ≡ node d h p b
   unfolding node nodeBy
   node-same h b = ap opening (go (meetsAll p (h .rules)) (shut h p b))
     where

@@ -10,7 +10,7 @@ use lib.Dec.{eqb}
 use Rattle.hall.specs.Hall.{Entry, device, Rule, Hall}
 use Rattle.lists.specs.Lists.{Each}
 
--- "The widest rule's width is k, 0 where there are no rules"
+-- "The widest rule's width is k, 0 where there are no rules"; 02, request 3: rules that name both positions "still count in k and m"
 unfoldable pub widest : List Rule → ℕ
 widest [] = 0
 widest (r ∷ rs) = max (length r) (widest rs)
@@ -43,7 +43,7 @@ once [] = true
 once (e ∷ es) = absent (device e) es && once es
 
 -- demand 3, the equality case: "no device is written twice in the rules, all rules are equally long and all costs are equal"; each
--- rule is as wide as the widest
+-- rule is as wide as the widest. So no rule of it names both positions of a device (`once-one-way` of proofs/Rules)
 pub record EqualityCase (h : Hall) : Type 0 where
   pub apart : once (entries (h .rules)) ≡ true
   pub wide : Each (λ r. length r ≡ widest (h .rules)) (h .rules)

@@ -10,7 +10,8 @@ use Prim.Native.Nat.{ℕ, _≤_, _<_}
 use lib.ListN.{length}
 use lib.IntN.{ℤ}
 use Rattle.hall.specs.Hall.{Hall, Plan}
-use Rattle.hall.specs.Order.{heldEntries, sumOf, LeastPlan, NoPlan}
+use Rattle.hall.specs.Order.{heldEntries, sumOf, LeastOf, NoneOf}
+use Rattle.hall.specs.Settings.{Satisfies}
 use Rattle.hall.specs.Walk.{walkHall}
 use Rattle.hall.specs.Ranges.{SheetOf}
 use Rattle.hall.specs.Bound.{boundOf, Bounded}
@@ -27,7 +28,7 @@ pub record WalkCount (h : Hall) (budget opened : ℕ) : Type 0 where
 pub record SaysLeast (ws : List ℤ) (budget room cost held opened : ℕ) (p : Plan) : Type 0 where
   pub hall : Hall
   pub sheet : SheetOf hall ws room
-  pub plan : LeastPlan hall p
+  pub plan : LeastOf Satisfies hall p
   pub total : cost ≡ sumOf (hall .costs) (heldEntries p)
   pub number : held ≡ length (heldEntries p)
   pub count : WalkCount hall budget opened
@@ -36,7 +37,7 @@ pub record SaysLeast (ws : List ℤ) (budget room cost held opened : ℕ) (p : P
 pub record SaysNone (ws : List ℤ) (budget room opened : ℕ) : Type 0 where
   pub hall : Hall
   pub sheet : SheetOf hall ws room
-  pub plan : NoPlan hall
+  pub plan : NoneOf Satisfies hall
   pub count : WalkCount hall budget opened
 
 -- code 2: the walk needs more nodes than the budget; "nodes opened, equal to the budget", and so below the bound

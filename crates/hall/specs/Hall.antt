@@ -1,13 +1,15 @@
--- Devices, entries, rules and plans; holding a device and meeting a rule. 01, "Words and deciding documents".
+-- Devices, entries, rules and plans; holding a device and meeting a rule. 01, "Words and deciding documents"; 02, request 3.
 --
--- In order: entries and rules; a hall; plans and the plans of a hall; holding; meeting a rule and all rules; the first rule
--- not met. Not here: cost and order (Order), the table's ranges (Ranges). Definitions only.
+-- In order: entries and rules; a hall; plans and the plans of a hall; holding; rules that name both positions of a device; meeting
+-- a rule and all rules, by the test that the walk uses; the first rule not met; the rules that are left to test. Not here: what
+-- meeting means (Settings), cost and order (Order), the table's ranges (Ranges). Definitions only.
 use mathlib.Core.Path.{_≡_}
 use mathlib.Core.Bool.{Bool, true, false, cond, _&&_, _||_}
 use mathlib.Core.List.{List, [], _∷_}
 use Prim.Native.Nat.{ℕ, _≤_}
 use lib.ListN.{length, getD, set}
 use lib.Dec.{eqb}
+use Rattle.lists.specs.Lists.{Each}
 
 -- 01: "An entry +v says that device v is kept at position 1, -v that it is kept at position 0." `at1` keeps a device at
 -- position 1, `at0` at position 0; devices are numbered from 0 here, so that entry +v of a sheet is `at1 (v - 1)`
@@ -53,11 +55,30 @@ isFree p e = eqb (getD p (device e) 1) 0
 unfoldable pub hold : Plan → Entry → Plan
 hold p e = set p (device e) (mark e)
 
--- 01: "A plan meets a rule when one of the rule's entries names a device held at that position."
--- 01, "The hall sheet": "A rule of width 0 is met by no plan."
+-- 01: "one of the rule's entries names a device held at that position"
+unfoldable pub holdsOne : Plan → Rule → Bool
+holdsOne p [] = false
+holdsOne p (e ∷ es) = holds p e || holdsOne p es
+
+-- the other entry of the same device
+abbrev pub opposite : Entry → Entry
+opposite (at1 v) = at0 v
+opposite (at0 v) = at1 v
+
+-- an entry stands in a rule
+unfoldable pub among : Entry → Rule → Bool
+among e [] = false
+among e (d ∷ ds) = (eqb (device d) (device e) && eqb (mark d) (mark e)) || among e ds
+
+-- 02, request 3: "a rule holding both entries of one device"
+unfoldable pub namesBoth : Rule → Bool
+namesBoth [] = false
+namesBoth (e ∷ es) = among (opposite e) es || namesBoth es
+
+-- 01: "A plan meets a rule when one of the rule's entries names a device held at that position"; 02, request 3: "From now on every
+-- plan meets such a rule". 01, "The hall sheet": "A rule of width 0 is met by no plan."
 unfoldable pub meetsRule : Plan → Rule → Bool
-meetsRule p [] = false
-meetsRule p (e ∷ es) = holds p e || meetsRule p es
+meetsRule p r = namesBoth r || holdsOne p r
 
 -- 01: "It meets the sheet when it meets every rule."
 unfoldable pub meetsAll : Plan → List Rule → Bool
@@ -68,3 +89,16 @@ meetsAll p (r ∷ rs) = meetsRule p r && meetsAll p rs
 unfoldable pub firstUnmet : Plan → List Rule → Rule
 firstUnmet p [] = []
 firstUnmet p (r ∷ rs) = cond (meetsRule p r) (firstUnmet p rs) r
+
+-- 02, request 3: "sheets without such rules"
+abbrev pub OneWay : List Rule → Type 0
+OneWay rs = Each (λ r. namesBoth r ≡ false) rs
+
+-- the rules that do not name both positions of a device: the others, which every plan meets, are left out
+unfoldable pub leaveOut : List Rule → List Rule
+leaveOut [] = []
+leaveOut (r ∷ rs) = cond (namesBoth r) (leaveOut rs) (r ∷ leaveOut rs)
+
+-- the hall without them
+abbrev pub without : Hall → Hall
+without h = record { costs = h .costs; rules = leaveOut (h .rules) }

@@ -1,6 +1,7 @@
--- Document 01, to be read in this order.
+-- Document 01, with what document 02 changed in it, to be read in this order. Earlier has what request 3 replaced.
 pub mod Hall
 pub mod Order
+pub mod Settings
 pub mod Walk
 pub mod Ranges
 pub mod Bound
@@ -9,3 +10,4 @@ pub mod Due
 pub mod Answer
 pub mod Demands
 pub mod Table
+pub mod Earlier

@@ -1,7 +1,7 @@
 -- Cost, held number, which of two plans is better, and the least plan. 01, "Words and deciding documents".
 --
--- In order: what a plan holds, one entry for each held device; cost and held number; the order; a plan that meets the sheet;
--- the least plan; no plan. Definitions only.
+-- In order: what a plan holds, one entry for each held device; cost and held number; the order; a plan that meets the sheet by the
+-- walk's test; the least plan and no plan, for whatever meeting means. Definitions only.
 use mathlib.Core.Path.{_≡_}
 use mathlib.Core.Bool.{Bool, true, false, _&&_, _||_}
 use mathlib.Core.List.{List, [], _∷_}
@@ -61,16 +61,23 @@ rank cs p = costOf cs p ∷ heldOf p ∷ p
 unfoldable pub better : List ℕ → Plan → Plan → Bool
 better cs p q = less (rank cs p) (rank cs q)
 
--- a plan of the hall that meets every rule
+-- a plan of the hall that meets every rule, by the walk's test
 pub record MeetsSheet (h : Hall) (p : Plan) : Type 0 where
   pub plan : PlanOf h p
   pub meets : meetsAll p (h .rules) ≡ true
 
--- 01: "The least plan is the best of all plans that meet the sheet."
-pub record LeastPlan (h : Hall) (p : Plan) : Type 0 where
-  pub sheet : MeetsSheet h p
-  pub best : (q : Plan) → MeetsSheet h q → better (h .costs) q p ≡ false
+-- 01: "The least plan is the best of all plans that meet the sheet.", for each meaning of "meet"
+pub record LeastOf (Meets : Hall → Plan → Type 0) (h : Hall) (p : Plan) : Type 0 where
+  pub sheet : Meets h p
+  pub best : (q : Plan) → Meets h q → better (h .costs) q p ≡ false
 
--- no plan of the hall meets every rule
+-- no plan meets the sheet, for each meaning of "meet"
+abbrev pub NoneOf : (Hall → Plan → Type 0) → Hall → Type 0
+NoneOf Meets h = (q : Plan) → Meets h q → ⊥
+
+-- both by the walk's test
+abbrev pub LeastPlan : Hall → Plan → Type 0
+LeastPlan = LeastOf MeetsSheet
+
 abbrev pub NoPlan : Hall → Type 0
-NoPlan h = (q : Plan) → MeetsSheet h q → ⊥
+NoPlan = NoneOf MeetsSheet

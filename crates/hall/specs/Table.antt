@@ -1,15 +1,17 @@
 -- Sheets with known answers. 01, "Sheets with known answers", with what 02 changed in it, and rows of our own.
 --
 -- In order: what a row says and what the definitions say for it; 01's rows with a star; 01's other rows; rows for ways astray
--- that no starred row tells apart; which count was wrong; the largest total. Definitions only; that the rows are right is
--- proofs/AnswerTables.
+-- that no starred row tells apart; which count was wrong; rules that name both positions; rules in full settings; the largest
+-- total. Definitions only; that the rows are right is proofs/AnswerTables.
+use mathlib.Core.Bool.{Bool, true, false}
 use mathlib.Core.List.{List, [], _∷_, _++_}
 use Prim.Native.Nat.{ℕ, zero, suc}
 use lib.ListN.{replicate}
 use lib.IntN.{ℤ}
 use Rattle.lists.specs.Words.{+, -}
-use Rattle.hall.specs.Hall.{at1, Rule, Hall}
+use Rattle.hall.specs.Hall.{at1, at0, Rule, Hall}
 use Rattle.hall.specs.Order.{heldEntries}
+use Rattle.hall.specs.Settings.{Setting}
 use Rattle.hall.specs.Ranges.{wordsOf, entryWords}
 use Rattle.hall.specs.Answer.{Answer, least, none, spent, refused, answer, numbers}
 
@@ -47,7 +49,7 @@ row = under 1000 200
 abbrev pub fourDevices : List ℤ
 fourDevices = + 4 ∷ + 5 ∷ + 2 ∷ + 4 ∷ + 3 ∷ + 3 ∷ + 2 ∷ + 1 ∷ + 2 ∷ + 2 ∷ - 2 ∷ + 3 ∷ + 2 ∷ - 1 ∷ + 4 ∷ []
 
--- 01's rows with a star
+-- 01's rows with a star. 02, request 3: "the row "1, 4, 1, 2, -1, 1" becomes least 0 0 1"
 unfoldable pub starred : List Row
 starred =
     row (+ 0 ∷ + 0 ∷ []) (0 ∷ 0 ∷ 0 ∷ 1 ∷ []) []
@@ -57,7 +59,7 @@ starred =
     ∷ row (+ 2 ∷ + 3 ∷ + 3 ∷ + 1 ∷ + 2 ∷ + 2 ∷ + 1 ∷ []) (0 ∷ 3 ∷ 1 ∷ 3 ∷ []) (+ 2 ∷ [])
     ∷ row (+ 2 ∷ + 1 ∷ + 10 ∷ + 1 ∷ + 2 ∷ + 1 ∷ + 2 ∷ []) (0 ∷ 1 ∷ 1 ∷ 3 ∷ []) (+ 1 ∷ [])
     ∷ under 2 200 (+ 2 ∷ + 1 ∷ + 10 ∷ + 1 ∷ + 2 ∷ + 1 ∷ + 2 ∷ []) (2 ∷ 2 ∷ []) []
-    ∷ row (+ 1 ∷ + 4 ∷ + 1 ∷ + 2 ∷ - 1 ∷ + 1 ∷ []) (0 ∷ 4 ∷ 1 ∷ 3 ∷ []) (+ 1 ∷ [])
+    ∷ row (+ 1 ∷ + 4 ∷ + 1 ∷ + 2 ∷ - 1 ∷ + 1 ∷ []) (0 ∷ 0 ∷ 0 ∷ 1 ∷ []) []
     ∷ row fourDevices (0 ∷ 9 ∷ 3 ∷ 10 ∷ []) (+ 2 ∷ + 3 ∷ + 4 ∷ [])
     ∷ row
     (+ 5 ∷ + 1000000000 ∷ + 1000000000 ∷ + 1000000000 ∷ + 1000000000 ∷ + 1000000000 ∷ + 5 ∷ + 1 ∷ + 1 ∷ + 1 ∷ + 2 ∷ + 1 ∷ + 3 ∷ + 1 ∷ + 4 ∷ + 1 ∷ + 5 ∷ [])
@@ -87,8 +89,8 @@ unstarred =
 -- Ways astray that no starred row tells apart, each with what it would answer instead
 unfoldable pub astray : List Row
 astray =
-    -- closing a node whose cost merely equals the best's: hold -1 2
-    row (+ 2 ∷ + 1 ∷ + 0 ∷ + 2 ∷ + 2 ∷ - 1 ∷ + 1 ∷ + 1 ∷ + 2 ∷ []) (0 ∷ 1 ∷ 2 ∷ 5 ∷ []) (+ 1 ∷ + 2 ∷ [])
+    -- closing a node whose cost merely equals the best's: hold 1 3
+    row (+ 3 ∷ + 1 ∷ + 1 ∷ + 0 ∷ + 2 ∷ + 2 ∷ + 1 ∷ + 2 ∷ + 1 ∷ + 3 ∷ []) (0 ∷ 1 ∷ 2 ∷ 5 ∷ []) (+ 2 ∷ + 3 ∷ [])
     -- step 2 without its + 1: 4 opened
     ∷ row (+ 2 ∷ + 1 ∷ + 1 ∷ + 2 ∷ + 2 ∷ + 1 ∷ + 2 ∷ + 1 ∷ + 1 ∷ []) (0 ∷ 1 ∷ 1 ∷ 3 ∷ []) (+ 1 ∷ [])
     -- a repeated entry skipped: 2 opened
@@ -128,6 +130,66 @@ counts =
     ∷ row (+ 1 ∷ + 5 ∷ + 2 ∷ + 0 ∷ + 1 ∷ + 2 ∷ []) (14 ∷ 5 ∷ []) []
     ∷ row (+ 1 ∷ + 5 ∷ + 2 ∷ + 0 ∷ []) (11 ∷ 4 ∷ []) []
     ∷ []
+
+-- 02, request 3, "A rule that names both positions": rows that tell it from its neighbours
+unfoldable pub doors : List Row
+doors =
+    -- met at the first node, by exactly the budget
+    under 1 200 (+ 1 ∷ + 4 ∷ + 1 ∷ + 2 ∷ - 1 ∷ + 1 ∷ []) (0 ∷ 0 ∷ 0 ∷ 1 ∷ []) []
+    -- with another device between the two entries
+    ∷ row (+ 2 ∷ + 5 ∷ + 7 ∷ + 1 ∷ + 3 ∷ + 1 ∷ + 2 ∷ - 1 ∷ []) (0 ∷ 0 ∷ 0 ∷ 1 ∷ []) []
+    -- in front of another rule: that one alone is branched on; under a budget of one node
+    ∷ row (+ 2 ∷ + 5 ∷ + 7 ∷ + 2 ∷ + 2 ∷ + 1 ∷ - 1 ∷ + 1 ∷ + 2 ∷ []) (0 ∷ 7 ∷ 1 ∷ 2 ∷ []) (+ 2 ∷ [])
+    ∷ under 1 200 (+ 2 ∷ + 5 ∷ + 7 ∷ + 2 ∷ + 2 ∷ + 1 ∷ - 1 ∷ + 1 ∷ + 2 ∷ []) (2 ∷ 1 ∷ []) []
+    -- behind another rule, with each entry twice
+    ∷ row (+ 2 ∷ + 5 ∷ + 7 ∷ + 2 ∷ + 1 ∷ + 2 ∷ + 4 ∷ + 1 ∷ + 1 ∷ - 1 ∷ - 1 ∷ []) (0 ∷ 7 ∷ 1 ∷ 2 ∷ []) (+ 2 ∷ [])
+    -- every rule
+    ∷ row (+ 2 ∷ + 5 ∷ + 7 ∷ + 3 ∷ + 2 ∷ + 1 ∷ - 1 ∷ + 2 ∷ - 2 ∷ + 2 ∷ + 3 ∷ + 2 ∷ + 1 ∷ - 2 ∷ []) (0 ∷ 0 ∷ 0 ∷ 1 ∷ []) []
+    -- with a third device, which another rule holds
+    ∷ row (+ 3 ∷ + 1 ∷ + 1 ∷ + 1 ∷ + 3 ∷ + 1 ∷ + 3 ∷ + 3 ∷ + 1 ∷ - 3 ∷ - 1 ∷ + 1 ∷ - 2 ∷ []) (0 ∷ 2 ∷ 2 ∷ 3 ∷ []) (- 2 ∷ + 3 ∷ [])
+    -- beside a rule that no plan meets; beside two that clash
+    ∷ row (+ 1 ∷ + 4 ∷ + 2 ∷ + 3 ∷ + 1 ∷ - 1 ∷ + 1 ∷ + 0 ∷ []) (1 ∷ 1 ∷ []) []
+    ∷ row (+ 2 ∷ + 5 ∷ + 7 ∷ + 3 ∷ + 2 ∷ - 2 ∷ + 2 ∷ + 1 ∷ + 1 ∷ + 1 ∷ - 1 ∷ []) (1 ∷ 2 ∷ []) []
+    -- no such rules: one position in each of two rules; positions of two devices; one position twice
+    ∷ row (+ 1 ∷ + 4 ∷ + 2 ∷ + 2 ∷ + 1 ∷ + 1 ∷ + 2 ∷ - 1 ∷ - 1 ∷ []) (1 ∷ 3 ∷ []) []
+    ∷ row (+ 2 ∷ + 1 ∷ + 10 ∷ + 1 ∷ + 2 ∷ + 1 ∷ - 2 ∷ []) (0 ∷ 1 ∷ 1 ∷ 3 ∷ []) (+ 1 ∷ [])
+    ∷ row (+ 1 ∷ + 4 ∷ + 1 ∷ + 2 ∷ - 1 ∷ - 1 ∷ []) (0 ∷ 4 ∷ 1 ∷ 3 ∷ []) (- 1 ∷ [])
+    ∷ []
+
+-- rules in full settings, for document 000's definition 2: whether all of them are true
+pub record Truth : Type 0 where
+  pub setting : Setting
+  pub rules : List Rule
+  pub expected : Bool
+
+abbrev pub truth : Setting → List Rule → Bool → Truth
+truth s rs b = record { setting = s; rules = rs; expected = b }
+
+-- "Door open or door closed", and the rules of the four-device sheet
+abbrev pub door : List Rule
+door = (at0 0 ∷ at1 0 ∷ []) ∷ []
+
+abbrev pub fourRules : List Rule
+fourRules = (at1 0 ∷ at1 1 ∷ []) ∷ (at0 1 ∷ at1 2 ∷ []) ∷ (at0 0 ∷ at1 3 ∷ []) ∷ []
+
+unfoldable pub truths : List Truth
+truths =
+    -- "is always true"
+    truth (true ∷ []) door true
+    ∷ truth (false ∷ []) door true
+    -- devices 2, 3 and 4 are held at 1, and device 1 is set either way
+    ∷ truth (true ∷ true ∷ true ∷ true ∷ []) fourRules true
+    ∷ truth (false ∷ true ∷ true ∷ true ∷ []) fourRules true
+    -- with device 2 set to 0 its free neighbour decides
+    ∷ truth (true ∷ false ∷ true ∷ true ∷ []) fourRules true
+    ∷ truth (false ∷ false ∷ true ∷ true ∷ []) fourRules false
+    -- no setting makes a rule without entries true
+    ∷ truth (true ∷ []) ([] ∷ []) false
+    ∷ []
+
+-- 01's row of a rule that names both positions, as it was before request 3
+abbrev pub earlierRow : Row
+earlierRow = row (+ 1 ∷ + 4 ∷ + 1 ∷ + 2 ∷ - 1 ∷ + 1 ∷ []) (0 ∷ 4 ∷ 1 ∷ 3 ∷ []) (+ 1 ∷ [])
 
 -- the largest total: 200 devices at 1,000,000,000, each held by a rule of its own
 unfoldable pub singles : ℕ → List Rule

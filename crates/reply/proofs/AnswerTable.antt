@@ -5,7 +5,7 @@ use mathlib.Core.Path.{_≡_, refl, sym}
 use mathlib.Core.List.{map}
 use lib.Dec.{lit≤, lit<}
 use Rattle.lists.specs.Bytes.{bytes}
-use Rattle.hall.specs.Hall.{holds, isFree, hold, meetsRule, meetsAll, firstUnmet}
+use Rattle.hall.specs.Hall.{holds, isFree, hold, holdsOne, among, namesBoth, meetsRule, meetsAll, firstUnmet}
 use Rattle.hall.specs.Order.{ifHeld, costOf, heldOf, heldFrom, less, rank, better}
 use Rattle.hall.specs.Walk.{keep, oneMore, closes, shut, still, after, entryBy, through, opening, nodeBy, node, walk, walkFrom, start, walkHall}
 use Rattle.hall.specs.Ranges.{wordsOf, ruleWords, words}
@@ -20,11 +20,11 @@ use Rattle.reply.specs.Table.{Row, output, outputOfFile, rows, fileRows,
 use Rattle.reply.proofs.Digits.{decimal-is}
 
 pub rows-right : map output rows ≡ map (λ (r : Row). r .printed) rows
-unfolding rows printedFor text.readText text.readTokens text.numberOf text.decimal text.tokensFrom text.front answer decode decodeBy hall allRules rule times walkHall walkFrom start walk node nodeBy opening through entryBy after still shut closes oneMore keep better rank less heldFrom heldOf costOf ifHeld firstUnmet meetsAll meetsRule hold isFree holds wordsOf spaced digitsBy
+unfolding rows printedFor text.readText text.readTokens text.numberOf text.decimal text.tokensFrom text.front answer decode decodeBy hall allRules rule times walkHall walkFrom start walk node nodeBy opening through entryBy after still shut closes oneMore keep better rank less heldFrom heldOf costOf ifHeld firstUnmet meetsAll meetsRule namesBoth among holdsOne hold isFree holds wordsOf spaced digitsBy
 rows-right = refl
 
 pub files-right : map outputOfFile fileRows ≡ map (λ (r : Row). r .printed) fileRows
-unfolding fileRows printedForFile cnf.readFile cnf.readHeader cnf.readNumbers cnf.taken sheetSoFar cnf.sameBytes cnf.leadLength words ruleWords text.numberOf text.decimal text.tokensFrom text.front answer decode decodeBy hall allRules rule times walkHall walkFrom start walk node nodeBy opening through entryBy after still shut closes oneMore keep better rank less heldFrom heldOf costOf ifHeld firstUnmet meetsAll meetsRule hold isFree holds wordsOf spaced digitsBy
+unfolding fileRows printedForFile cnf.readFile cnf.readHeader cnf.readNumbers cnf.taken sheetSoFar cnf.sameBytes cnf.leadLength words ruleWords text.numberOf text.decimal text.tokensFrom text.front answer decode decodeBy hall allRules rule times walkHall walkFrom start walk node nodeBy opening through entryBy after still shut closes oneMore keep better rank less heldFrom heldOf costOf ifHeld firstUnmet meetsAll meetsRule namesBoth among holdsOne hold isFree holds wordsOf spaced digitsBy
 files-right = refl
 
 -- large numbers, by the law that a number's digits are the kit's

@@ -1,4 +1,4 @@
--- What `leastplan` and `cnfplan` print. 01, "What leastplan prints"; 02, requests 1 and 2.
+-- What `leastplan` and `cnfplan` print. 01, "What leastplan prints"; 02, requests 1 to 3.
 --
 -- In order: items behind blanks; a line; the line of the held devices; a refusal; an answer; the words of a sheet; a text that was
 -- read; the whole, from the text that was typed; a file that was read; the whole, from the file. The digits of a number are those of

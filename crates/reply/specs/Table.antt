@@ -35,6 +35,9 @@ rows =
     ∷ row "1 4 1 1 -1" "least 4 1 2\nhold -1\n"
     -- a device held at 0 between two held at 1
     ∷ row "3 1 1 1 3 1 1 1 -2 1 3" "least 3 3 4\nhold 1 -2 3\n"
+    -- 02, request 3: a rule that names both positions, alone and in front of another
+    ∷ row "1 4 1 2 -1 1" "least 0 0 1\nhold\n"
+    ∷ row "2 5 7 2 2 1 -1 1 2" "least 7 1 2\nhold 2\n"
     -- an empty text; blanks only
     ∷ row "" "refused 11 0\n"
     ∷ row "  \n" "refused 11 0\n"
@@ -56,6 +59,8 @@ fileRows =
     row "c the four devices of 01's example\np cnf 4 3\n1 2 0\n-2 3 0\n-1 4 0\n" "least 3 3 10\nhold 2 3 4\n"
     -- no clause: `hold` alone
     ∷ row "p cnf 2 0" "least 0 0 1\nhold\n"
+    -- 02, request 3: a clause that names both positions of a variable, in front of another
+    ∷ row "p cnf 2 2\n1 -1 0\n2 0\n" "least 1 1 2\nhold 2\n"
     -- an empty clause
     ∷ row "p cnf 0 1\n0\n" "none 1\n"
     -- a file that is refused: no header; a percent sign; too many variables; an entry beyond them; the 33rd entry of the second clause;

@@ -1,5 +1,5 @@
 // What `leastplan` and `cnfplan` print, as bytes in a lent room; and the whole way to them, from a typed text and from a DIMACS file.
-// 01, "What leastplan prints"; 02, requests 1 and 2.
+// 01, "What leastplan prints"; 02, requests 1 to 3.
 //
 // put copies bytes and digits into the room; lines makes a line of a word and its numbers, and the line of the held devices.
 ghost use mathlib.Core.Path.{_≡_};

@@ -13,4 +13,5 @@ fn main() {
     tables::astray_order();
     tables::astray_ends();
     tables::counts();
+    tables::doors();
 }

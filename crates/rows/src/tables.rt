@@ -1,5 +1,5 @@
-// The rows of document 01's table, and rows of our own: ways a planner goes astray, and which count was wrong; as
-// crates/hall/specs/Table.antt has them.
+// The rows of document 01's table, and rows of our own: ways a planner goes astray, which count was wrong, and a rule that names both
+// positions of a device; as crates/hall/specs/Table.antt has them.
 use crate::telling::row;
 use crate::telling::row_without_room;
 
@@ -52,7 +52,7 @@ pub(crate) fn refused_rules() {
 
 // Ways astray in the walk's steps.
 pub(crate) fn astray_steps() {
-    row(b"2 1 0 2 2 -1 1 1 2", 1000);
+    row(b"3 1 1 0 2 2 1 2 1 3", 1000);
     row(b"2 1 1 2 2 1 2 1 1", 1000);
     row(b"1 4 1 2 1 1", 1000);
     row(b"1 0 2 1 1 0", 1000);
@@ -84,4 +84,20 @@ pub(crate) fn counts() {
     row(b"0 2 0 40 7", 1000);
     row(b"1 5 2 0 1 2", 1000);
     row(b"1 5 2 0", 1000);
+}
+
+// A rule that names both positions of a device, by itself and among others; and rules that do not, though they nearly do.
+pub(crate) fn doors() {
+    row(b"1 4 1 2 -1 1", 1);
+    row(b"2 5 7 1 3 1 2 -1", 1000);
+    row(b"2 5 7 2 2 1 -1 1 2", 1000);
+    row(b"2 5 7 2 2 1 -1 1 2", 1);
+    row(b"2 5 7 2 1 2 4 1 1 -1 -1", 1000);
+    row(b"2 5 7 3 2 1 -1 2 -2 2 3 2 1 -2", 1000);
+    row(b"3 1 1 1 3 1 3 3 1 -3 -1 1 -2", 1000);
+    row(b"1 4 2 3 1 -1 1 0", 1000);
+    row(b"2 5 7 3 2 -2 2 1 1 1 -1", 1000);
+    row(b"1 4 2 2 1 1 2 -1 -1", 1000);
+    row(b"2 1 10 1 2 1 -2", 1000);
+    row(b"1 4 1 2 -1 -1", 1000);
 }

@@ -1,6 +1,6 @@
 -- What a code says is what its entry says.
 --
--- In order: a code's device and mark; holding, being free, meeting and releasing, by the code (`holds-code`, `free-code`, `hold-code`,
+-- In order: holding, being free, meeting and releasing, by the code (`holds-code`, `free-code`, `hold-code`,
 -- `release-code`); a free device that is held and released is as it was (`release-hold`). Assumes nothing.
 use mathlib.Core.Path.{_≡_, refl, sym, ap, _∙_}
 use mathlib.Core.Bool.{true}
@@ -11,26 +11,10 @@ use lib.Dec.{eqb}
 use lib.ListN.{length, getD, set}
 use lib.Seq.{set-set, set-getD}
 use borrow.Author.Tests.{eqb-true}
-use Rattle.hall.specs.Hall.{Entry, device, mark, Plan, holds, isFree, hold}
-use Rattle.sheet.specs.Coded.{entryFrom, entryOf}
+use Rattle.hall.specs.Hall.{Entry, device, Plan, holds, isFree, hold}
+use Rattle.sheet.specs.Coded.{entryOf}
+use Rattle.sheet.proofs.Codes.{device-of, mark-of}
 use Rattle.search.specs.Plan.{release}
-
-pub device-of : (code : ℕ) → device (entryOf code) ≡ code / 2
-unfolding entryOf
-device-of code = go (code % 2)
-  where
-    go : (odd : ℕ) → device (entryFrom odd (code / 2)) ≡ code / 2
-    go zero = refl
-    go (suc odd) = refl
-
-mark-of : (code : ℕ) → mark (entryOf code) ≡ 1 + code % 2
-unfolding entryOf
-mark-of code = go (code % 2) (omega arith)
-  where
-    go : (odd : ℕ) → odd < 2 → mark (entryFrom odd (code / 2)) ≡ 1 + odd
-    go zero h = refl
-    go (suc zero) h = refl
-    go (suc (suc odd)) h = absurd (omega arith)
 
 -- a device that the plan has reads the same whatever is read behind the end
 getD-within : (p : Plan) (d x y : ℕ) → d < length p → getD p d x ≡ getD p d y

@@ -13,7 +13,8 @@ use native.Mathlib.Omega.{arith}
 use lib.ListN.{length, take}
 use lib.IntN.{ℤ}
 use Rattle.hall.specs.Hall.{Hall, Plan}
-use Rattle.hall.specs.Order.{costOf, heldOf, LeastPlan, NoPlan}
+use Rattle.hall.specs.Order.{costOf, heldOf, LeastOf, NoneOf}
+use Rattle.hall.specs.Settings.{Satisfies}
 use Rattle.hall.specs.Walk.{walkHall}
 use Rattle.hall.specs.Ranges.{SheetOf}
 use Rattle.hall.specs.Bound.{boundOf}
@@ -76,7 +77,7 @@ module _ (ws : List ℤ) (budget : ℕ) (before : List ℕ) (r : Answer) (after 
         (λ e. x .0 (ap (λ (s : Answer). answerOf s plan) e), λ l. case r plan (hall.spent budget) (x .1 l))
 
     module _ (allowed : walkHall h .opened ≤ budget) where
-      pub least-where : (p : Plan) → ((r ≡ Least (costOf (h .costs) p) (heldOf p) (walkHall h .opened)) × (plan ≡ p)) ↔ LeastPlan h p
+      pub least-where : (p : Plan) → ((r ≡ Least (costOf (h .costs) p) (heldOf p) (walkHall h .opened)) × (plan ≡ p)) ↔ LeastOf Satisfies h p
       least-where p =
           let x = exactly.least-where ws budget (length before) (answerOf r plan) (f .demands) h s allowed p in
           let a = hall.least (costOf (h .costs) p) (heldOf p) (walkHall h .opened) p in
@@ -85,7 +86,7 @@ module _ (ws : List ℤ) (budget : ℕ) (before : List ℕ) (r : Answer) (after 
           stands : {cost held opened : ℕ} → r ≡ Least cost held opened → answerOf r plan ≡ hall.least cost held opened p → plan ≡ p
           stands e m = cc
 
-      pub none-where : (r ≡ None (walkHall h .opened)) ↔ NoPlan h
+      pub none-where : (r ≡ None (walkHall h .opened)) ↔ NoneOf Satisfies h
       none-where =
           let x = exactly.none-where ws budget (length before) (answerOf r plan) (f .demands) h s allowed in
           (λ e. x .0 (ap (λ (s : Answer). answerOf s plan) e), λ n. case r plan (hall.none (walkHall h .opened)) (x .1 n))

@@ -18,6 +18,7 @@ use Rattle.hall.proofs.Sums.{cost-most}
 use Rattle.hall.proofs.Walks.{walks-on}
 use Rattle.hall.proofs.Bound.{node-one}
 use Rattle.sheet.specs.Coded.{entryOf, entriesOf, hallOf}
+use Rattle.sheet.proofs.Codes.{device-of, entries-one}
 use Rattle.search.specs.declared.meter.Meter.{Meter}
 use Rattle.search.specs.declared.node.State.{State}
 use Rattle.search.specs.declared.node.Opening.{Opening}
@@ -29,9 +30,9 @@ use Rattle.search.specs.Best.{bestOf}
 use Rattle.search.specs.Ends.{WentOn, IsSpent}
 use Rattle.search.specs.Node.{alone, Openable, Branches, OpenedAs, Opens}
 use Rattle.search.specs.Walk.{Node, Entries, AtEntries, Walks}
-use Rattle.search.proofs.Codes.{device-of, release-hold}
+use Rattle.search.proofs.Codes.{release-hold}
 use Rattle.search.proofs.Costs.{hold-cost, cost-at-most}
-use Rattle.search.proofs.Unmet.{rule-entries, entries-one}
+use Rattle.search.proofs.Unmet.{rule-entries}
 use Rattle.search.proofs.Ends.{still-budgeted, ends-then}
 use Rattle.search.proofs.Nodes.{through-held, through-free}
 
@@ -50,7 +51,7 @@ falls-child p₀ p held code left t e free holds now =
 module _ {costs codes starts : List ℕ} {m : ℕ} {p bestPlan : Plan} {s : State} {cost held : ℕ} (n : Node costs codes starts m p bestPlan s cost held) where
   pub openable : Openable codes starts m p bestPlan s
   openable = record {
-    tested = record { laid = rw (n .same-plan) (n .loaded .laid); short = n .loaded .short; count = n .loaded .count };
+    tested = record { laid = rw (n .same-plan) (n .loaded .laid); short = n .loaded .short; count = n .loaded .count; one-way = n .loaded .one-way };
     same-best = n .same-best ∙ sym (n .same-plan);
     budgeted = n .budgeted;
   }

@@ -1,74 +1,36 @@
 -- The rules in the coded arrays, and the two loops of the rule test.
 --
--- In order: where a rule lies (`ends-within`, `named-at`, `rule-entries`); one entry and one rule taken off the front (`entries-one`,
--- `rules-one`); the inner loop, over the entries of a rule (`Untested`: none that was tested is held), by the laws of meeting a rule;
--- the outer loop, over the rules (`Passed`: what the rules left say is what all say). Assumes nothing.
+-- In order: where the entries of a rule lie (`rule-entries`); the inner loop, over the entries of a rule (`Untested`: none that was
+-- tested is held), by the laws of meeting a rule; the outer loop, over the rules (`Passed`: what the rules left say is what all
+-- say, and none of them names both positions of a device). Assumes nothing.
 use mathlib.Core.Path.{_≡_, refl, sym, _∙_}
 use mathlib.Core.Bool.{true, false}
 use mathlib.Core.List.{List, _∷_}
-use Prim.Native.Nat.{ℕ, zero, suc, _+_, _-_, _/_, _≤_, _<_}
+use Prim.Native.Nat.{ℕ, _+_, _-_, _≤_, _<_}
 use native.Mathlib.Omega.{arith}
-use native.Mathlib.Numerals.{sub-one}
 use lib.ListN.{getD}
-use Rattle.lists.specs.Lists.{Each}
 use Rattle.lists.proofs.Cases.{Tri, below as lower, level, above, tri}
-use Rattle.hall.specs.Hall.{Entry, Plan, holds, meetsRule, meetsAll, firstUnmet}
-use Rattle.hall.proofs.Rules.{In, first, later, held-meets, unheld-unmet}
-use Rattle.sheet.specs.Coded.{entryOf, entriesOf, ruleOf, rulesOf, Laid}
+use Rattle.hall.specs.Hall.{Plan, holds, namesBoth, meetsRule, meetsAll, firstUnmet, OneWay}
+use Rattle.hall.proofs.Rules.{held-meets, unheld-unmet}
+use Rattle.sheet.specs.Coded.{entryOf, ruleOf, rulesOf, Laid}
+use Rattle.sheet.proofs.Codes.{ends-within, named-at, rules-one, each-entry, entry-in}
 use Rattle.search.specs.Rules.{UnmetAt}
 use Rattle.search.specs.Walk.{Entries}
 
 -- ── where a rule lies ──
 module _ {n : ℕ} {codes starts : List ℕ} {m : ℕ} (laid : Laid n codes starts m) where
-  starts-rise : (k r : ℕ) → r + k ≡ m → getD starts r 0 ≤ getD starts m 0
-  starts-rise zero r e = let z : r ≡ m = omega arith in rw z (omega arith)
-  starts-rise (suc k) r e = let a = laid .rise r (omega arith) in let b = starts-rise k (r + 1) (omega arith) in omega arith
-
-  pub ends-within : (r : ℕ) → r < m → getD starts (r + 1) 0 ≤ getD starts m 0
-  ends-within r l = starts-rise (m - (r + 1)) (r + 1) (omega arith)
-
-  pub named-at : (r i : ℕ) → r < m → i < getD starts (r + 1) 0 → getD codes i 0 / 2 < n
-  named-at r i l h = let w = ends-within r l in laid .named i (omega arith)
-
   pub rule-entries : getD starts m 0 ≤ 16384 → (r : ℕ) → r < m → Entries n codes (getD starts r 0) (getD starts (r + 1) 0 - getD starts r 0)
   rule-entries short r l =
       let a = laid .rise r l in
       let b = laid .narrow r l in
-      let w = ends-within r l in
+      let w = ends-within laid r l in
       record {
         narrow = omega arith;
         within = omega arith;
-        named = λ i from to. named-at r i l (omega arith);
+        named = λ i from to. named-at laid r i l (omega arith);
       }
 
--- ── off the front ──
-pub entries-one : (codes : List ℕ) (at left : ℕ) → (left ≡ 0 → ⊥) → entriesOf codes at left ≡ entryOf (getD codes at 0) ∷ entriesOf codes (at + 1) (left - 1)
-unfolding entriesOf
-entries-one codes at zero more = absurd (more refl)
-entries-one codes at (suc left) more = rw sub-one refl
-
-rules-one : (codes starts : List ℕ) (r left : ℕ) → (left ≡ 0 → ⊥) → rulesOf codes starts r left ≡ ruleOf codes starts r ∷ rulesOf codes starts (r + 1) (left - 1)
-unfolding rulesOf
-rules-one codes starts r zero more = absurd (more refl)
-rules-one codes starts r (suc left) more = rw sub-one refl
-
 -- ── the inner loop: no entry of rule r before place i is held, whichever way they are gone through ──
--- a property of each entry of a rule, place by place; and an entry of the rule, by its place
-each-entry : (P : Entry → Type 0) (codes : List ℕ) (at left : ℕ) → ((i : ℕ) → at ≤ i → i < at + left → P (entryOf (getD codes i 0))) → Each P (entriesOf codes at left)
-unfolding entriesOf
-each-entry P codes at zero f = tt
-each-entry P codes at (suc left) f = (f at (omega arith) (omega arith), each-entry P codes (at + 1) left (λ i from to. f i (omega arith) (omega arith)))
-
-entry-in : (codes : List ℕ) (at left i : ℕ) → at ≤ i → i < at + left → In (entryOf (getD codes i 0)) (entriesOf codes at left)
-unfolding entriesOf
-entry-in codes at zero i from to = absurd (omega arith)
-entry-in codes at (suc left) i from to = go (tri at i) (λ l. entry-in codes (at + 1) left i (omega arith) (omega arith))
-  where
-    go : Tri at i → (at < i → In (entryOf (getD codes i 0)) (entriesOf codes (at + 1) left)) → In (entryOf (getD codes i 0)) (entryOf (getD codes at 0) ∷ entriesOf codes (at + 1) left)
-    go (lower l) ih = later (ih l)
-    go (level e) ih = rw e first
-    go (above l) ih = absurd (omega arith)
-
 pub record Untested (codes starts : List ℕ) (p : Plan) (r end i : ℕ) : Type 0 where
   pub ends : end ≡ getD starts (r + 1) 0
   pub from : getD starts r 0 ≤ i
@@ -76,8 +38,8 @@ pub record Untested (codes starts : List ℕ) (p : Plan) (r end i : ℕ) : Type 
   pub missed : (j : ℕ) → getD starts r 0 ≤ j → j < i → holds p (entryOf (getD codes j 0)) ≡ false
 
 module _ {codes starts : List ℕ} {p : Plan} {r end i : ℕ} (x : Untested codes starts p r end i) where
-  pub rule-unmet : end ≤ i → meetsRule p (ruleOf codes starts r) ≡ false
-  rule-unmet l = unheld-unmet p (ruleOf codes starts r) (each-entry (λ e. holds p e ≡ false) codes _ _ (λ j from to. let e = x .ends in let f = x .from in x .missed j from (omega arith)))
+  pub rule-unmet : namesBoth (ruleOf codes starts r) ≡ false → end ≤ i → meetsRule p (ruleOf codes starts r) ≡ false
+  rule-unmet o l = unheld-unmet p (ruleOf codes starts r) o (each-entry (λ e. holds p e ≡ false) codes _ _ (λ j from to. let e = x .ends in let f = x .from in x .missed j from (omega arith)))
 
   pub rule-met : i < end → holds p (entryOf (getD codes i 0)) ≡ true → meetsRule p (ruleOf codes starts r) ≡ true
   rule-met l hit = let e = x .ends in let f = x .from in held-meets p _ (ruleOf codes starts r) (entry-in codes _ _ i f (omega arith)) hit
@@ -96,9 +58,10 @@ pub record Passed (codes starts : List ℕ) (m : ℕ) (p : Plan) (r start : ℕ)
   pub here : start ≡ getD starts r 0
   pub same-all : meetsAll p (rulesOf codes starts r (m - r)) ≡ meetsAll p (rulesOf codes starts 0 m)
   pub same-first : firstUnmet p (rulesOf codes starts r (m - r)) ≡ firstUnmet p (rulesOf codes starts 0 m)
+  pub one-way : OneWay (rulesOf codes starts r (m - r))
 
-pub passed-none : (codes starts : List ℕ) (m : ℕ) (p : Plan) {start : ℕ} → start ≡ getD starts 0 0 → Passed codes starts m p 0 start
-passed-none codes starts m p here = let e : m - 0 ≡ m = omega arith in record { upto = omega arith; here = here; same-all = rw e refl; same-first = rw e refl }
+pub passed-none : (codes starts : List ℕ) (m : ℕ) (p : Plan) {start : ℕ} → OneWay (rulesOf codes starts 0 m) → start ≡ getD starts 0 0 → Passed codes starts m p 0 start
+passed-none codes starts m p o here = let e : m - 0 ≡ m = omega arith in record { upto = omega arith; here = here; same-all = rw e refl; same-first = rw e refl; one-way = rw e o }
 
 module _ {codes starts : List ℕ} {m : ℕ} {p : Plan} {r start : ℕ} (x : Passed codes starts m p r start) where
   pub all-met : r ≡ m → meetsAll p (rulesOf codes starts 0 m) ≡ true
@@ -115,6 +78,12 @@ module _ {codes starts : List ℕ} {m : ℕ} {p : Plan} {r start : ℕ} (x : Pas
         let e : m - r - 1 ≡ m - (r + 1) = omega arith in
         rw (rules-one codes starts r (m - r) (λ (z : m - r ≡ 0). omega arith), e) refl
 
+    left-one-way : OneWay (ruleOf codes starts r ∷ rulesOf codes starts (r + 1) (m - (r + 1)))
+    left-one-way = rw left at (x .one-way)
+
+    pub rule-one-way : namesBoth (ruleOf codes starts r) ≡ false
+    rule-one-way = left-one-way .0
+
     pub untested : {n end : ℕ} → Laid n codes starts m → end ≡ getD starts (r + 1) 0 → Untested codes starts p r end start
     untested laid e =
         let a = laid .rise r below in
@@ -125,7 +94,7 @@ module _ {codes starts : List ℕ} {m : ℕ} {p : Plan} {r start : ℕ} (x : Pas
     unfolding meetsAll firstUnmet
     passed-one e hit =
         let u = below in
-        record { upto = omega arith; here = e; same-all = simp hit at (rw left at (x .same-all)); same-first = simp hit at (rw left at (x .same-first)) }
+        record { upto = omega arith; here = e; same-all = simp hit at (rw left at (x .same-all)); same-first = simp hit at (rw left at (x .same-first)); one-way = left-one-way .1 }
 
     pub unmet-at : meetsRule p (ruleOf codes starts r) ≡ false → UnmetAt codes starts m p r
     unfolding meetsAll firstUnmet

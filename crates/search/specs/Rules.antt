@@ -7,16 +7,18 @@ use mathlib.Core.Bool.{true, false}
 use mathlib.Core.List.{List}
 use Prim.Native.Nat.{ℕ, _≤_, _<_}
 use lib.ListN.{length, getD}
-use Rattle.hall.specs.Hall.{Plan, meetsAll, firstUnmet}
+use Rattle.hall.specs.Hall.{Plan, meetsAll, firstUnmet, OneWay}
 use Rattle.sheet.specs.Coded.{ruleOf, rulesOf, Laid}
 use Rattle.search.specs.declared.rules.Unmet.{Unmet}
 use Rattle.search.specs.declared.rules.Unmet.the-variants.{Rule, AllMet}
 
--- m rules lie in the arrays, the codes in 16,384 places and the starts in 2,001, and name devices of the plan
+-- m rules lie in the arrays, the codes in 16,384 places and the starts in 2,001, and name devices of the plan; none of them names both
+-- positions of a device
 pub record Tested (codes starts : List ℕ) (m : ℕ) (p : Plan) : Type 0 where
   pub laid : Laid (length p) codes starts m
   pub short : getD starts m 0 ≤ 16384
   pub count : m ≤ 2000
+  pub one-way : OneWay (rulesOf codes starts 0 m)
 
 -- rule r is the first that the plan does not meet
 pub record UnmetAt (codes starts : List ℕ) (m : ℕ) (p : Plan) (r : ℕ) : Type 0 where

@@ -6,10 +6,10 @@ use mathlib.Core.Path.{_≡_}
 use mathlib.Core.List.{List}
 use Prim.Native.Nat.{ℕ, _+_, _/_, _≤_, _<_}
 use lib.ListN.{length, getD}
-use Rattle.hall.specs.Hall.{Plan}
+use Rattle.hall.specs.Hall.{Plan, OneWay}
 use Rattle.lists.specs.Lists.{Each}
 use Rattle.hall.specs.Walk.{Walked, through, walkFrom}
-use Rattle.sheet.specs.Coded.{entriesOf, hallOf, Laid}
+use Rattle.sheet.specs.Coded.{entriesOf, rulesOf, hallOf, Laid}
 use Rattle.search.specs.declared.meter.Meter.{Meter}
 use Rattle.search.specs.declared.node.State.{State}
 use Rattle.search.specs.declared.walk.Went.{Went}
@@ -17,13 +17,14 @@ use Rattle.search.specs.Best.{Tally, bestOf, Shown}
 use Rattle.search.specs.Ends.{Ends}
 
 -- a hall of m rules lies in the arrays, its codes in 16,384 places; "devices | 0 to 200", "a cost | 0 to 1,000,000,000",
--- "rules | 0 to 2,000"
+-- "rules | 0 to 2,000"; none of the rules names both positions of a device (02, request 3: those that do are left out)
 pub record Loaded (costs codes starts : List ℕ) (m : ℕ) : Type 0 where
   pub laid : Laid (length costs) codes starts m
   pub short : getD starts m 0 ≤ 16384
   pub devices : length costs ≤ 200
   pub cheap : Each (λ c. c ≤ 1000000000) costs
   pub count : m ≤ 2000
+  pub one-way : OneWay (rulesOf codes starts 0 m)
 
 -- what a node is walked under: its plan p with the plan's numbers, the best so far with its plan, and a meter within its budget
 pub record Node (costs codes starts : List ℕ) (m : ℕ) (p bestPlan : Plan) (s : State) (cost held : ℕ) : Type 0 where

@@ -1,6 +1,6 @@
-// Finds the least restriction plan of a hall sheet: 01, "The walk" and "The answer sheet of the search".
+// Finds the least restriction plan of a hall sheet: 01, "The walk" and "The answer sheet of the search"; 02, request 3.
 //
-// meter counts the nodes against the budget; rules finds the first rule that is not met; plan holds and releases devices; node
+// `needed` reads the sheet without the rules that every plan meets, so that no node tests them. meter counts the nodes against the budget; rules finds the first rule that is not met; plan holds and releases devices; node
 // opens a node; walk goes from a node to its children; solve makes the rooms, walks from the first node and gives what it finds.
 ghost use mathlib.Core.Path.{_≡_};
 ghost use lib.ListN.{replicate};
@@ -63,7 +63,7 @@ pub fn least_plan(words: &[i32], budget: u32, room: &mut [u8]) -> Answer
     let mut costs = costs_room();
     let mut codes = codes_room();
     let mut starts = starts_room();
-    match sheet::read(words, room.len(), &mut costs, &mut codes, &mut starts) {
+    match needed::read(words, room.len(), &mut costs, &mut codes, &mut starts) {
         Sheet::Refused(kind, place) => Answer::Refused(kind, place),
         Sheet::Hall(n, m) => solve(&costs[0..n], &codes, &starts, m, budget, room),
     }

@@ -1,7 +1,8 @@
 // The rules as they lie in the coded arrays, and the first one that a plan does not meet. 01, "The walk", step 3.
 //
-// A rule goes by its number. The test stops at the first held entry of a rule, and takes a rule's end over as the next one's
-// start: it is nearly all of what a node costs.
+// A rule goes by its number. None of the rules here names both positions of a device: those were left out before (`needed`). The
+// test stops at the first held entry of a rule, and takes a rule's end over as the next one's start: it is nearly all of what a
+// node costs.
 ghost use mathlib.Core.Path.{_≡_};
 ghost use Prim.Native.Nat.{_≤_, _<_, _/_};
 ghost use lib.ListN.{length, getD};

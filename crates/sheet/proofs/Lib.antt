@@ -11,4 +11,5 @@ pub mod Putting
 pub mod ToldNumbers
 pub mod Decoding
 pub mod Coded
+pub mod Codes
 pub mod Only

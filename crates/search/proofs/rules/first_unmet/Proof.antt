@@ -5,7 +5,8 @@ use Prim.Native.Nat.{_<_, _-_}
 use mathlib.Core.Path.{_≡_, refl, sym, _∙_}
 use native.Mathlib.Omega.{arith}
 use borrow.Author.Needs.{needs}
-use Rattle.search.proofs.Unmet.{ends-within, named-at, Untested, rule-unmet, rule-met, tested-one, Passed, passed-none, all-met, below, untested, passed-one, unmet-at}
+use Rattle.sheet.proofs.Codes.{ends-within, named-at}
+use Rattle.search.proofs.Unmet.{Untested, rule-unmet, rule-met, tested-one, Passed, passed-none, all-met, below, rule-one-way, untested, passed-one, unmet-at}
 use Rattle.search.proofs.rules.first_unmet.Statement.{statement}
 use Rattle.search.proofs.rules.first_unmet.Tie as tie
 
@@ -43,7 +44,7 @@ start-of-requires : tie.Need-start-of-requires Inv-loop μ-loop Inv-rules μ-rul
 start-of-requires c κs = search needs
 
 rules-holds : tie.Need-rules-holds Inv-loop μ-loop Inv-rules μ-rules
-rules-holds c = passed-none _ _ _ _ (c .start-of .ensures)
+rules-holds c = passed-none _ _ _ _ (c .before .before .pre .one-way) (c .start-of .ensures)
 
 add-start-of : tie.Need-add-start-of Inv-loop μ-loop Inv-rules μ-rules
 add-start-of c = let l = rule-here c in omega arith
@@ -97,7 +98,7 @@ returns-2 : tie.Need-returns-2 Inv-loop μ-loop Inv-rules μ-rules
 returns-2 c =
     let entry = c .before in
     let begun = entry .before .before in
-    rw (entry .loop .inv .0) (unmet-at (begun .before .rules .inv) (begun .if1 .left) (rule-unmet (entry .loop .inv .1) (c .loop-test .left)))
+    rw (entry .loop .inv .0) (unmet-at (begun .before .rules .inv) (begun .if1 .left) (rule-unmet (entry .loop .inv .1) (rule-one-way (begun .before .rules .inv) (begun .if1 .left)) (c .loop-test .left)))
 
 pub first-unmet-spec : {M : Type 1} → statement M
 first-unmet-spec =

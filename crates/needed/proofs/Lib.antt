@@ -1,0 +1,6 @@
+-- Laws, in the order in which the functions need them; then what the contract of `read` gives.
+pub mod Stamping
+pub mod Moving
+pub mod Leaving
+pub mod Needing
+pub mod Only
