@@ -1,7 +1,7 @@
 /*
- * How much stack leastplan_search takes on the sheet with the deepest walk, and leastplan_answer and leastplan_cnf_answer on the same
- * sheet as text and as a file: 200 devices, the rule 1, then for each i from 1 to 199 a rule of thirty-one times -i and then i + 1, so that every level is reached
- * through the last entry of its rule.
+ * How much stack leastplan_search takes on the sheet with the deepest walk, leastplan_answer and leastplan_cnf_answer on the same sheet
+ * as text and as a file, and leastplan_wcnf_write on it: 200 devices, the rule 1, then for each i from 1 to 199 a rule of thirty-one
+ * times -i and then i + 1, so that every level is reached through the last entry of its rule.
  *
  * The call runs in a thread on a stack that was filled with a pattern; what is no longer the pattern was used. A thread that
  * calls nothing is measured too, and taken off. Then the search is run on stacks of falling size until one is too small.
@@ -26,7 +26,7 @@ static uint8_t room[200];
 static uint64_t numbers[4];
 static char text[60000], file[60000];
 static size_t length, file_length;
-static uint8_t out[1024];
+static uint8_t out[1024], wcnf[98741];
 
 static void deepest_sheet(void)
 {
@@ -77,6 +77,12 @@ static void *call_with_text(void *unused)
 static void *call_with_file(void *unused)
 {
     leastplan_cnf_answer((const uint8_t *)file, file_length, out);
+    return unused;
+}
+
+static void *call_to_write(void *unused)
+{
+    leastplan_wcnf_write(words, count, 1, wcnf, sizeof wcnf, numbers);
     return unused;
 }
 
@@ -153,6 +159,11 @@ int main(void)
     if (memcmp(out, reply, sizeof reply - 1) != 0)
         stop("the deepest sheet as a file has another answer");
     printf("from text to printed bytes: %zu bytes of stack, from a file: %zu\n", from_text - thread, from_file - thread);
+    static const char start[] = "p wcnf 400 800 401\n401 1 0\n401 2 2 ";
+    size_t to_write = used(call_to_write);
+    if (numbers[0] != 0 || memcmp(wcnf, start, sizeof start - 1) != 0)
+        stop("the deepest sheet has another WCNF text");
+    printf("to WCNF text: %zu bytes of stack\n", to_write - thread);
     fflush(stdout);
     size_t size = MOST;
     while (size > 16384 && fits(size / 2))

@@ -23,7 +23,7 @@
 extern "C" {
 #endif
 
-/* The first number of an answer, of a reading and of a refusal that is printed. */
+/* The first number of an answer, of a reading, of a writing and of a refusal that is printed. */
 enum {
     LEASTPLAN_LEAST = 0,
     LEASTPLAN_NONE = 1,
@@ -43,7 +43,8 @@ enum {
     LEASTPLAN_NO_ROOM = 24,
     LEASTPLAN_NO_HEADER = 31,
     LEASTPLAN_NOT_CLOSED = 32,
-    LEASTPLAN_EXTRA_TOKEN = 33
+    LEASTPLAN_EXTRA_TOKEN = 33,
+    LEASTPLAN_SMALL_TEXT_ROOM = 41
 };
 
 /*
@@ -132,6 +133,38 @@ void leastplan_cnf_read(const uint8_t *text, size_t text_len, int32_t *room, siz
  * its place, "refused 19 PLACE CLAUSE".
  */
 size_t leastplan_cnf_answer(const uint8_t *text, size_t text_len, uint8_t out[1024]);
+
+/*
+ * Writes the sheet in words[0] to words[words_len - 1] as WCNF text, which MaxSAT solvers read, to the front of text: the edition from
+ * 2022 where edition is 0, the edition before 2022 where it is any other number.
+ *
+ * Device i has two variables, 2i-1 for held at 1 and 2i for held at 0. Hard clauses are the rules, in their order and with their
+ * entries as written, without those that have both entries of one device; then for each device "-(2i-1) -2i 0". Soft clauses, for
+ * each device with a cost above 0, are "-(2i-1) 0" and "-2i 0", each behind the cost. From 2022 on a hard clause starts with "h".
+ * Before, it starts with the top weight, twice the sum of all costs plus 1, and the text starts with the line "p wcnf", the number of
+ * variables, the number of clauses written and the top weight. One blank stands between tokens, byte 10 ends each line, and no byte 0
+ * is put behind the last one. The least weight of soft clauses that are broken where all hard clauses are met is the cost of the least
+ * plan; where there is no plan, the hard clauses cannot all be met.
+ *
+ * What was written goes to the front of numbers, code first:
+ *
+ *   numbers[0]  meaning                                     numbers[1]          numbers[2]
+ *    0          written                                     the text's length   unchanged
+ *   11          the sheet ends too soon                     words_len           unchanged
+ *   12          the device count is outside its range       place of that word  unchanged
+ *   13          a cost is outside its range                 place of that word  unchanged
+ *   14          an entry is 0 or beyond the device count    place of that word  unchanged
+ *   15          words stand after the last rule             place of the first  unchanged
+ *   17          there are more than 16,384 words            16384               unchanged
+ *   18          the rule count is outside its range         place of that word  unchanged
+ *   19          the width of a rule is outside its range    place of that word  its rule
+ *   41          text has fewer bytes than are needed        the bytes needed    unchanged
+ *
+ * numbers[3] is unchanged. Places are word numbers from 0, rules are numbered from 1; 41 is told of good sheets alone. 98,957 bytes
+ * are enough for every sheet. With code 0 the first numbers[1] bytes of text are the text, and the rest is unchanged. With any other
+ * code all of text is unchanged.
+ */
+void leastplan_wcnf_write(const int32_t *words, size_t words_len, uint32_t edition, uint8_t *text, size_t text_len, uint64_t numbers[4]);
 
 #ifdef __cplusplus
 }

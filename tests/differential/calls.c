@@ -38,11 +38,9 @@ unsigned char *lend(const void *from, size_t bytes)
 
 /* ---- a sheet */
 
-static void show(const struct sheet *s, uint32_t budget, const uint64_t *expected, int numbers, const uint64_t *got)
+void show_numbers(const struct sheet *s, const uint64_t *expected, int numbers, const uint64_t *got)
 {
-    if (tally.failed > 5)
-        return;
-    printf("FAILED: budget %lu, room %zu, expected", (unsigned long)budget, s->room);
+    printf(", expected");
     for (int i = 0; i < numbers; i++)
         printf(" %llu", (unsigned long long)expected[i]);
     printf(", got");
@@ -52,6 +50,14 @@ static void show(const struct sheet *s, uint32_t budget, const uint64_t *expecte
     for (size_t i = 0; i < s->words && i < 400; i++)
         printf(" %ld", (long)s->word[i]);
     putchar('\n');
+}
+
+static void show(const struct sheet *s, uint32_t budget, const uint64_t *expected, int numbers, const uint64_t *got)
+{
+    if (tally.failed > 5)
+        return;
+    printf("FAILED: budget %lu, room %zu", (unsigned long)budget, s->room);
+    show_numbers(s, expected, numbers, got);
 }
 
 struct reference_answer compare(const struct sheet *s, uint32_t budget)

@@ -1,4 +1,4 @@
-/* Calls of the library, each compared with the reference, and what was counted of them and of those of file_calls.h. */
+/* Calls of the library, each compared with the reference, and what was counted of them and of those of file_calls.h and wcnf_calls.h. */
 #ifndef CALLS_H
 #define CALLS_H
 
@@ -16,12 +16,18 @@ struct tally {
     unsigned long files, by_file[34], files_left_out;
     /* those of a sheet, text or file in which a rule names both positions of a device */
     unsigned long both_by_code[20], both_exact_room, both_by_printed[25], both_by_file[34], both_file_spent;
+    /* writings of WCNF text: from 2022 and before, each by its code */
+    unsigned long writings, by_writing[2][42], writing_of_later_rule, other_edition, refused_without_room;
+    unsigned long exact_text_room, text_room_one_short, no_text_room, long_text_room, without_bytes, with_rules_left_out;
 };
 
 extern struct tally tally;
 
 void make_memory(void); /* before the first call */
 unsigned char *lend(const void *from, size_t bytes); /* a copy that ends where readable memory ends, until the next one */
+
+/* The end of a line on a call that failed: the numbers expected and got, and the sheet. */
+void show_numbers(const struct sheet *s, const uint64_t *expected, int numbers, const uint64_t *got);
 
 struct reference_answer compare(const struct sheet *s, uint32_t budget);
 

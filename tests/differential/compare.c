@@ -1,13 +1,14 @@
 /*
- * Compares the library with the reference: on sheets and files with known answers, the documents' and our own, and on sheets, texts and
- * DIMACS CNF files made from a seed.
+ * Compares the library with the reference: on sheets and files with known answers and WCNF texts, the documents' and our own, and on
+ * sheets, texts and DIMACS CNF files made from a seed.
  *
  *   compare [SEED [SHEETS]]
  *
  * An accepted sheet is called again with the budget that its walk needs and with one less, and without the rules that name both
  * positions of a device. Then the sheet is typed as text, sometimes damaged, and what leastplan_answer prints is compared with what the
  * reference reads, finds and prints. Files are a third as many as sheets; each is read into several rooms, what leastplan_cnf_answer
- * prints is compared too, and so is the search of what was read.
+ * prints is compared too, and so is the search of what was read. Every other sheet, good or damaged, is written as WCNF text in both
+ * editions, each into several rooms.
  */
 #include "both.h"
 #include "calls.h"
@@ -16,7 +17,9 @@
 #include "files.h"
 #include "known.h"
 #include "known_files.h"
+#include "known_wcnf.h"
 #include "seen.h"
+#include "wcnf_calls.h"
 
 #include <stdio.h>
 #include <stdlib.h>
@@ -84,6 +87,8 @@ static void compare_all(unsigned long sheets)
             while (one_in(3));
         uint32_t most = s.words > 2000 ? 40 : s.devices > 40 ? 400 : 2000;
         compare_sheet(&s, most);
+        if (i % 2 == 0)
+            compare_writings(&s);
         text_of(&s, &t);
         if (one_in(3))
             do
@@ -129,9 +134,9 @@ static void compare_long_walks(void)
 
 /* ---- what has to have come up */
 
-static const char *const meaning[34] = {"least", "none", "spent", [11] = "refused 11", "refused 12", "refused 13", "refused 14", "refused 15", "refused 16",
+static const char *const meaning[42] = {"least", "none", "spent", [11] = "refused 11", "refused 12", "refused 13", "refused 14", "refused 15", "refused 16",
                                         "refused 17", "refused 18", "refused 19", [21] = "refused 21", "refused 22", "refused 23", "refused 24",
-                                        [31] = "refused 31", "refused 32", "refused 33"};
+                                        [31] = "refused 31", "refused 32", "refused 33", [41] = "refused 41"};
 
 static void demand(const char *what, unsigned long count, unsigned long least)
 {
@@ -225,6 +230,37 @@ static void demand_files(void)
     demand("spent, to the sheet read from such a file", tally.both_file_spent, LEAST_OF_EACH);
 }
 
+/* The sheet's refusals but 16, and 41. */
+static int of_a_writing(int code)
+{
+    return code == 41 || (code >= 11 && code <= 19 && code != 16);
+}
+
+static void demand_writings(void)
+{
+    static const char *const edition[2] = {"from 2022", "before 2022"};
+    char what[80];
+    printf("%lu writings of WCNF text\n", tally.writings);
+    for (int old = 0; old < 2; old++) {
+        snprintf(what, sizeof what, "written in the edition %s", edition[old]);
+        demand(what, tally.by_writing[old][0], LEAST_OF_EACH);
+        for (int code = 0; code < 42; code++)
+            if (of_a_writing(code)) {
+                snprintf(what, sizeof what, "%s, in the edition %s", meaning[code], edition[old]);
+                demand(what, tally.by_writing[old][code], LEAST_OF_EACH / 2);
+            }
+    }
+    demand("refused 19 of a rule behind the first", tally.writing_of_later_rule, LEAST_OF_EACH);
+    demand("refusals of the sheet with a room of 0 bytes", tally.refused_without_room, LEAST_OF_EACH);
+    demand("written in the edition before 2022, whose number was not 1", tally.other_edition, LEAST_OF_EACH);
+    demand("written into a room exactly as long as the text", tally.exact_text_room, LEAST_OF_EACH);
+    demand("refused 41 in a room one byte shorter", tally.text_room_one_short, LEAST_OF_EACH);
+    demand("refused 41 in a room of 0 bytes", tally.no_text_room, LEAST_OF_EACH);
+    demand("written into a room at least 20,000 bytes longer", tally.long_text_room, LEAST_OF_EACH);
+    demand("written without a byte", tally.without_bytes, LEAST_OF_EACH / 2);
+    demand("written without the rules that name both positions of a device", tally.with_rules_left_out, LEAST_OF_EACH);
+}
+
 int main(int argc, char **argv)
 {
     uint64_t seed = argc > 1 ? strtoull(argv[1], NULL, 10) : 1;
@@ -234,6 +270,7 @@ int main(int argc, char **argv)
     make_memory();
     known_sheets();
     known_files();
+    known_wcnf();
     passed = tally.passed, failed = tally.failed;
     tally = (struct tally){.passed = passed, .failed = failed}; /* what is demanded has to come from the seed */
     compare_all(sheets);
@@ -244,6 +281,7 @@ int main(int argc, char **argv)
     demand_sheets(sheets);
     demand_texts();
     demand_files();
+    demand_writings();
     printf("%lu passed, %lu failed\n", tally.passed, tally.failed);
     return tally.failed != 0;
 }

@@ -4,100 +4,7 @@
  * here is made for speed.
  */
 #include "reference.h"
-
-#include <stdbool.h>
-
-/* ---- the hall sheet */
-
-struct sheet {
-    int32_t devices;
-    const int32_t *cost; /* cost[v] for device v; before them, at 0, stands the device count */
-    int32_t rules;
-    const int32_t *rule[2000]; /* of each rule: at 0 the width, from 1 on the entries */
-    bool has_both[2000];       /* of each rule: whether it holds both entries of one device */
-    int both_rules;            /* how many rules do, of those read so far */
-};
-
-/* How far the sheet has been read, the number of the rule at hand, and the first fault. */
-struct reader {
-    const int32_t *word;
-    size_t words, next;
-    int rule;
-    int code;
-    size_t place;
-};
-
-static bool refuse(struct reader *r, int code, size_t place)
-{
-    r->code = code;
-    r->place = place;
-    return false;
-}
-
-/* Reads a word that has to lie between low and high; the code given is for a word outside. False at a fault. */
-static bool read_word(struct reader *r, int32_t low, int32_t high, int code, int32_t *value)
-{
-    if (r->next == r->words)
-        return refuse(r, 11, r->words);
-    *value = r->word[r->next];
-    if (*value < low || *value > high)
-        return refuse(r, code, r->next);
-    r->next++;
-    return true;
-}
-
-static bool read_rule(struct reader *r, int32_t devices)
-{
-    int32_t width, entry;
-    r->rule++;
-    if (!read_word(r, 0, 32, 19, &width))
-        return false;
-    for (int e = 1; e <= width; e++) {
-        if (!read_word(r, -devices, devices, 14, &entry))
-            return false;
-        if (entry == 0)
-            return refuse(r, 14, r->next - 1);
-    }
-    return true;
-}
-
-/* 02, request 3: "a rule holding both entries of one device" */
-static bool has_both_entries(const int32_t *rule)
-{
-    for (int e = 1; e <= rule[0]; e++)
-        for (int f = e + 1; f <= rule[0]; f++)
-            if (rule[f] == -rule[e])
-                return true;
-    return false;
-}
-
-/* The order: 17; the sheet from left to right; 15; 16. */
-static bool read_sheet(struct reader *r, struct sheet *s, size_t room)
-{
-    int32_t cost;
-    if (r->words > 16384)
-        return refuse(r, 17, 16384);
-    s->cost = r->word;
-    if (!read_word(r, 0, 200, 12, &s->devices))
-        return false;
-    for (int v = 1; v <= s->devices; v++)
-        if (!read_word(r, 0, 1000000000, 13, &cost))
-            return false;
-    if (!read_word(r, 0, 2000, 18, &s->rules))
-        return false;
-    for (int i = 0; i < s->rules; i++) {
-        s->rule[i] = r->word + r->next;
-        if (!read_rule(r, s->devices))
-            return false;
-        s->has_both[i] = has_both_entries(s->rule[i]);
-        s->both_rules += s->has_both[i];
-    }
-    if (r->next < r->words)
-        return refuse(r, 15, r->next);
-    if (room < (size_t)s->devices)
-        return refuse(r, 16, (size_t)s->devices);
-    return true;
-}
+#include "reference_sheet.h"
 
 /* ---- plans */
 
@@ -128,13 +35,13 @@ static bool holds_an_entry(const struct plan *p, const int32_t *rule)
 }
 
 /* 02, request 3: "From now on every plan meets such a rule". */
-static bool meets_rule(const struct sheet *s, const struct plan *p, int i)
+static bool meets_rule(const struct hall *s, const struct plan *p, int i)
 {
     return s->has_both[i] || holds_an_entry(p, s->rule[i]);
 }
 
 /* NULL where the plan meets every rule. */
-static const int32_t *first_rule_not_met(const struct sheet *s, const struct plan *p)
+static const int32_t *first_rule_not_met(const struct hall *s, const struct plan *p)
 {
     for (int i = 0; i < s->rules; i++)
         if (!meets_rule(s, p, i))
@@ -142,7 +49,7 @@ static const int32_t *first_rule_not_met(const struct sheet *s, const struct pla
     return NULL;
 }
 
-static uint64_t cost(const struct sheet *s, const struct plan *p)
+static uint64_t cost(const struct hall *s, const struct plan *p)
 {
     uint64_t sum = 0;
     for (int v = 1; v <= s->devices; v++)
@@ -151,7 +58,7 @@ static uint64_t cost(const struct sheet *s, const struct plan *p)
     return sum;
 }
 
-static int held(const struct sheet *s, const struct plan *p)
+static int held(const struct hall *s, const struct plan *p)
 {
     int number = 0;
     for (int v = 1; v <= s->devices; v++)
@@ -161,7 +68,7 @@ static int held(const struct sheet *s, const struct plan *p)
 }
 
 /* The lowest-numbered device where two plans differ; 0 where they differ nowhere. */
-static int first_difference(const struct sheet *s, const struct plan *p, const struct plan *q)
+static int first_difference(const struct hall *s, const struct plan *p, const struct plan *q)
 {
     for (int v = 1; v <= s->devices; v++)
         if (p->mark[v] != q->mark[v])
@@ -169,7 +76,7 @@ static int first_difference(const struct sheet *s, const struct plan *p, const s
     return 0;
 }
 
-static bool better(const struct sheet *s, const struct plan *p, const struct plan *q)
+static bool better(const struct hall *s, const struct plan *p, const struct plan *q)
 {
     if (cost(s, p) != cost(s, q))
         return cost(s, p) < cost(s, q);
@@ -182,7 +89,7 @@ static bool better(const struct sheet *s, const struct plan *p, const struct pla
 /* ---- the walk */
 
 struct walk {
-    const struct sheet *sheet;
+    const struct hall *sheet;
     uint32_t budget, opened;
     bool has_best;
     struct plan best;
@@ -192,7 +99,7 @@ struct walk {
 /* Step 1, for a plan that meets every rule. */
 static void offer(struct walk *w, const struct plan *p)
 {
-    const struct sheet *s = w->sheet;
+    const struct hall *s = w->sheet;
     if (w->has_best && cost(s, p) == cost(s, &w->best)) {
         if (held(s, p) != held(s, &w->best))
             w->by_number++;
@@ -208,7 +115,7 @@ static void offer(struct walk *w, const struct plan *p)
 /* Step 2: whether the node is closed. */
 static bool is_closed(const struct walk *w, const struct plan *p)
 {
-    const struct sheet *s = w->sheet;
+    const struct hall *s = w->sheet;
     if (!w->has_best)
         return false;
     if (cost(s, p) > cost(s, &w->best))
@@ -252,16 +159,14 @@ static struct reference_answer short_answer(int code, uint64_t number)
     return (struct reference_answer){.number = {(uint64_t)code, number}, .numbers = 2};
 }
 
-/* Request 1: with 19 the number of its rule comes third. */
 static struct reference_answer refused_answer(const struct reader *r)
 {
-    struct reference_answer a = short_answer(r->code, r->place);
-    if (r->code == 19)
-        a.number[a.numbers++] = (uint64_t)r->rule;
+    struct reference_answer a = {.numbers = 0};
+    a.numbers = refusal_numbers(r, a.number);
     return a;
 }
 
-static struct reference_answer least_answer(const struct sheet *s, const struct plan *best, uint32_t opened)
+static struct reference_answer least_answer(const struct hall *s, const struct plan *best, uint32_t opened)
 {
     struct reference_answer a = {.number = {0, cost(s, best), (uint64_t)held(s, best), opened}, .numbers = 4};
     a.devices = s->devices;
@@ -270,7 +175,7 @@ static struct reference_answer least_answer(const struct sheet *s, const struct 
     return a;
 }
 
-static struct reference_answer walked_answer(const struct sheet *s, uint32_t budget)
+static struct reference_answer walked_answer(const struct hall *s, uint32_t budget)
 {
     struct walk w = {.sheet = s, .budget = budget};
     struct plan first = {{FREE}};
@@ -287,11 +192,18 @@ static struct reference_answer walked_answer(const struct sheet *s, uint32_t bud
     return a;
 }
 
+/* The order: the sheet; 16. */
 struct reference_answer reference(const int32_t *word, size_t words, uint32_t budget, size_t room)
 {
     struct reader r = {.word = word, .words = words};
-    struct sheet s = {.both_rules = 0};
-    struct reference_answer a = read_sheet(&r, &s, room) ? walked_answer(&s, budget) : refused_answer(&r);
+    struct hall s = {.both_rules = 0};
+    struct reference_answer a;
+    if (!read_sheet(&r, &s))
+        a = refused_answer(&r);
+    else if (room < (size_t)s.devices)
+        a = short_answer(16, (uint64_t)s.devices);
+    else
+        a = walked_answer(&s, budget);
     a.both_rules = s.both_rules;
     return a;
 }

@@ -1,4 +1,4 @@
-/* The answers of document 01, with requests 1 to 3 of document 02, by the reference. */
+/* The answers of document 01, with requests 1 to 4 of document 02, by the reference. */
 #ifndef REFERENCE_H
 #define REFERENCE_H
 
@@ -37,6 +37,16 @@ struct reference_cnf {
 
 /* Reads a file of so many bytes into a room for so many words, which a refusal leaves unchanged. */
 struct reference_cnf reference_cnf_read(const unsigned char *text, size_t length, int32_t *word, size_t room);
+
+/* What the writer of WCNF text comes to. */
+struct reference_wcnf {
+    uint64_t number[3]; /* 0 and the text's length; or a refusal's code, its place and, for 19, its rule */
+    int numbers;        /* how many of them there are */
+    int both_rules;     /* of an accepted sheet: how many rules hold both entries of one device, so that they are left out */
+};
+
+/* Writes the text of a sheet into a room for so many bytes, which a refusal leaves unchanged: edition 0 is that from 2022, all others before. */
+struct reference_wcnf reference_wcnf_write(const int32_t *word, size_t words, uint32_t edition, unsigned char *text, size_t room);
 
 /* What leastplan and cnfplan print for an answer, or for a refusal (its numbers as the answer's); returns the number of bytes. */
 size_t reference_print(const struct reference_answer *a, char *to);

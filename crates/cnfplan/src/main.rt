@@ -5,7 +5,7 @@ use libc::STDOUT_FILENO;
 
 // Reads, answers and writes, and does nothing else.
 fn main() {
-    let mut text = input::text_room();
+    let mut text = rooms::text_room();
     match input::read_input(&mut text) {
         Input::Failed => {
             io::write_all(
@@ -14,7 +14,7 @@ fn main() {
             );
         }
         Input::Bytes(n) => {
-            let mut out = input::reply_room();
+            let mut out = rooms::reply_room();
             let m = reply::answer_file(&text[0..n], &mut out);
             io::write_all(STDOUT_FILENO, &out[0..m]);
         }

@@ -1,11 +1,13 @@
--- What each arm of `leastplan_search` and of `leastplan_cnf_read` tells is the paper's numbers of the answer, and these are the definition's.
+-- What each arm of `leastplan_search`, `leastplan_cnf_read` and `leastplan_wcnf_write` tells is the paper's numbers of the answer,
+-- and these are the definition's.
 --
 -- In order: the numbers told so far (`tell-room`, `tell-more`, `tell-end`, `tell-long`); a case of the search's answer whose numbers are
 -- told (`told-case`), and a refusal, whose numbers the sheet's reader tells (`told-refused`); the same for a file that was read
--- (`told-file`) and for one that was refused (`told-flaw`). Assumes nothing.
-use mathlib.Core.Path.{_≡_, sym, _∙_, ap}
+-- (`told-file`) and for one that was refused (`told-flaw`), and for a text that was written (`told-text`) and one that was not
+-- (`told-obstacle`); the edition that a number asks for (`edition-0`, `edition-other`). Assumes nothing.
+use mathlib.Core.Path.{_≡_, refl, sym, _∙_, ap}
 use mathlib.Core.List.{List}
-use Prim.Native.Nat.{ℕ, _+_, _≤_, _<_}
+use Prim.Native.Nat.{ℕ, zero, suc, _+_, _≤_, _<_}
 use native.Mathlib.Omega.{arith}
 use lib.ListN.{length, getD, set, take}
 use lib.Seq.{length-take-le, take-all}
@@ -23,7 +25,14 @@ use Rattle.dimacs.specs.declared.Flaw.{Flaw}
 use Rattle.search.specs.Contract.{numbersOf, Finds}
 use Rattle.search.specs.declared.Answer.{Answer}
 use Rattle.search.specs.declared.Answer.the-variants.{Refused}
-use Rattle.exported.specs.Exported.{Searches, ReadsFile}
+use Rattle.wcnf.specs.Contract as wcnf
+use Rattle.wcnf.specs.Contract.{obstacleNumbers, Writes}
+use Rattle.wcnf.specs.declared.Edition.{Edition}
+use Rattle.wcnf.specs.declared.Edition.the-variants.{Since2022, Before2022}
+use Rattle.wcnf.specs.declared.Obstacle.{Obstacle}
+use Rattle.wcnf.specs.declared.Written.{Written}
+use Rattle.wcnf.specs.declared.Written.the-variants as written
+use Rattle.exported.specs.Exported.{editionOf, Searches, ReadsFile, WritesText}
 
 -- ── the numbers told so far ──
 module _ (all before : List ℕ) (fits : length all ≤ length before) (numbers : List ℕ) (i : ℕ) (so-far : numbers ≡ inFront (take i all) before) where
@@ -66,3 +75,25 @@ module _ {text : List ℕ} {before after : List ℤ} {numbers numbers′ : List 
 
   pub told-flaw : {flaw : Flaw} {place count : ℕ} → r ≡ filed.Refused flaw place → Tells (flawNumbers flaw place) numbers count numbers′ → ReadsFile text before numbers after numbers′
   told-flaw e t = told-file e (t .room)
+
+-- ── the numbers of a text that was written ──
+pub edition-0 : (n : ℕ) → n ≡ 0 → Since2022 ≡ editionOf n
+edition-0 n e = rw e
+
+pub edition-other : (n : ℕ) → (n ≡ 0 → ⊥) → Before2022 ≡ editionOf n
+edition-other zero h = absurd (h refl)
+edition-other (suc n) h = refl
+
+module _ {ws : List ℤ} {edition : Edition} {number : ℕ} (asked : edition ≡ editionOf number) {before after numbers numbers′ : List ℕ} {r : Written} (f : Writes ws edition before r after) where
+  pub told-text : {s : Written} → r ≡ s → numbers′ ≡ inFront (wcnf.numbersOf s) numbers → WritesText ws number before numbers after numbers′
+  told-text {s} e t =
+      let g : Writes ws (editionOf number) before r after = rw asked at f in
+      record {
+        told = t ∙ ap (λ (front : List ℕ). inFront front numbers) (sym (ap wcnf.numbersOf e) ∙ g .says);
+        room = g .room;
+        value = r;
+        writes = g;
+      }
+
+  pub told-obstacle : {obstacle : Obstacle} {place count : ℕ} → r ≡ written.Refused obstacle place → Tells (obstacleNumbers obstacle place) numbers count numbers′ → WritesText ws number before numbers after numbers′
+  told-obstacle e t = told-text e (t .room)

@@ -1,8 +1,9 @@
--- The contracts of `leastplan_search` and `leastplan_cnf_read`: this paper's numbers in the lent array, the room, and all that the search
--- or the reader itself promises. 01, "The answer sheet of the search"; 02, request 2. Definitions only.
+-- The contracts of `leastplan_search`, `leastplan_cnf_read` and `leastplan_wcnf_write`: this paper's numbers in the lent array, the room,
+-- and all that the search, the reader or the writer itself promises. 01, "The answer sheet of the search"; 02, requests 2 and 4.
+-- Definitions only.
 use mathlib.Core.Path.{_≡_}
 use mathlib.Core.List.{List}
-use Prim.Native.Nat.{ℕ}
+use Prim.Native.Nat.{ℕ, zero, suc}
 use lib.ListN.{length}
 use lib.IntN.{ℤ}
 use Rattle.lists.specs.Lists.{inFront}
@@ -14,6 +15,12 @@ use Rattle.dimacs.specs.Contract.{filedOf, Files}
 use Rattle.dimacs.specs.declared.Filed.{Filed}
 use Rattle.search.specs.Contract.{Finds}
 use Rattle.search.specs.declared.Answer.{Answer}
+use Rattle.wcnf.specs.Wcnf.{writing}
+use Rattle.wcnf.specs.Contract as wcnf
+use Rattle.wcnf.specs.Contract.{Writes}
+use Rattle.wcnf.specs.declared.Edition.{Edition}
+use Rattle.wcnf.specs.declared.Edition.the-variants.{Since2022, Before2022}
+use Rattle.wcnf.specs.declared.Written.{Written}
 
 pub record Searches (ws : List ℤ) (budget : ℕ) (before numbers : List ℕ) (after numbers' : List ℕ) : Type 0 where
   -- "Code" and "Returned" stand one after another in front of the array; the places behind them are unchanged
@@ -32,3 +39,17 @@ pub record ReadsFile (text : List ℕ) (before : List ℤ) (numbers : List ℕ) 
   -- the reader's own answer, and what it is given for
   pub value : Filed
   pub files : Files text before value after
+
+-- 0 is the edition from 2022, any other number the one before
+abbrev pub editionOf : ℕ → Edition
+editionOf zero = Since2022
+editionOf (suc n) = Before2022
+
+pub record WritesText (ws : List ℤ) (edition : ℕ) (before numbers : List ℕ) (after numbers' : List ℕ) : Type 0 where
+  -- 0 and the length of the text, or the numbers of the refusal, stand in front of the array; the places behind them are unchanged
+  pub told : numbers' ≡ inFront (wcnf.numbersWritten (writing (editionOf edition) ws (length before))) numbers
+  -- the text room afterwards, for every case
+  pub room : after ≡ wcnf.roomAfter (writing (editionOf edition) ws (length before)) before
+  -- the writer's own answer, and what it is given for
+  pub value : Written
+  pub writes : Writes ws (editionOf edition) before value after

@@ -1,2 +1,2 @@
--- What the contracts of the exported search and of the exported reader say.
+-- What the contracts of the exported search, of the exported reader and of the exported writer say.
 pub mod Exported

@@ -1,4 +1,4 @@
-// The library for C: the search, the reader of DIMACS files, and the replies to a typed text and to a file.
+// The library for C: the search, the reader of DIMACS files, the replies to a typed text and to a file, and the writer of WCNF text.
 //
 // C has no value with cases, so the answer goes into an array: the code, then what is returned, in the table's order. Every plain
 // name of the archive begins with the library's.
@@ -6,10 +6,12 @@ ghost use mathlib.Core.Path.{_≡_};
 ghost use Prim.Native.Nat.{_≤_};
 ghost use lib.ListN.{length};
 ghost use Rattle.lists.specs.Lists.{inFront};
-ghost use Rattle.exported.specs.Exported.{Searches, ReadsFile};
+ghost use Rattle.exported.specs.Exported.{editionOf, Searches, ReadsFile, WritesText};
 ghost use Rattle.reply.specs.Contract.{Replies, RepliesFile};
 use dimacs::Filed;
 use search::Answer;
+use wcnf::Edition;
+use wcnf::Written;
 
 // The numbers of an answer go to the front of the array; what lies behind them stays.
 fn tell(told: &[u64], numbers: &mut [u64])
@@ -83,4 +85,37 @@ pub extern "C" fn leastplan_cnf_answer(text: &[u8], out: &mut [u8; 1024]) -> usi
     ensures { λ r. ⌜ RepliesFile (now (text .entry)) (now (out .entry)) r (now (out .exit)) ⌝ }
 {
     reply::answer_file(text, out)
+}
+
+// Which edition a number asks for.
+fn edition_of(number: u32) -> Edition
+    ensures { λ r. ⌜ r ≡ editionOf number ⌝ }
+{
+    if number == 0 {
+        Edition::Since2022
+    } else {
+        Edition::Before2022
+    }
+}
+
+// 02, request 4: the WCNF text of a sheet goes to the front of the room, in the edition from 2022 for 0, else in the one before; 0 and its
+// length, or the numbers of the refusal, to `numbers`.
+#[no_mangle]
+pub extern "C" fn leastplan_wcnf_write(
+    words: &[i32],
+    edition: u32,
+    text: &mut [u8],
+    numbers: &mut [u64; 4],
+)
+    ensures { λ _. ⌜ WritesText (now (words .entry)) edition (now (text .entry)) (now (numbers .entry)) (now (text .exit)) (now (numbers .exit)) ⌝ }
+{
+    match wcnf::write(words, edition_of(edition), text) {
+        Written::Text(size) => {
+            let told = [0, size as u64];
+            tell(&told, numbers);
+        }
+        Written::Refused(obstacle, place) => {
+            wcnf::numbers_of(obstacle, place, numbers);
+        }
+    }
 }

@@ -2,10 +2,9 @@
 --
 -- The argument: they change neither whether a plan meets every rule nor the first rule that it does not meet (`met-without`,
 -- `first-without`), nor what shuts a node (`shut-without` of Shut), and nothing else of the rules is asked at a node
--- (`node-without`). The claims: `walk-without`, and under a budget `within-without`. No rule
--- that is left names both positions of a device (`left-one-way`), and what is left is no more than what was there (`left-fewer`,
--- `left-shorter`, `without-in-range`).
--- Assumes nothing.
+-- (`node-without`). The claims: `met-without`, `walk-without`, and under a budget `within-without`. No rule that is left names both
+-- positions of a device (`left-one-way`), and what is left is no more than what was there (`left-fewer`, `left-shorter`,
+-- `without-in-range`). Assumes nothing.
 use mathlib.Core.Path.{_≡_, refl, ap, _∙_}
 use mathlib.Core.Logic.{_⊎_, inl, inr}
 use mathlib.Core.Bool.{Bool, true, false, cond}
@@ -26,7 +25,7 @@ use Rattle.hall.proofs.Rules.{both-met}
 use Rattle.hall.proofs.Shut.{shut-without}
 use Rattle.hall.proofs.Walks.{node-same}
 
-met-without : (p : Plan) (rs : List Rule) → meetsAll p (leaveOut rs) ≡ meetsAll p rs
+pub met-without : (p : Plan) (rs : List Rule) → meetsAll p (leaveOut rs) ≡ meetsAll p rs
 unfolding meetsAll leaveOut
 met-without p [] = refl
 met-without p (r ∷ rs) = go (test (namesBoth r)) (met-without p rs)

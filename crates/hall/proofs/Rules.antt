@@ -7,7 +7,8 @@
 --     unheld-unmet   4. a rule none of whose entries is held, and which does not name both positions of a device, is not met
 --     both-met       5. a rule that names both positions of a device is met
 --
--- For the theorem of the two readings (Readings) alone: a rule that does not is met where 01's own wording says so (`one-way-meets`).
+-- For the two readings (Readings) and the encoding of crates/rails alone: a rule that does not is met where 01's own wording says so
+-- (`one-way-meets`).
 -- From 3 and 4: holding a free entry of a rule meets it (`hold-meets`), a rule whose devices are all free and different is not met
 -- (`free-unmet`, by `once-one-way`: no device written twice is no rule with both positions), and a rule of one entry is met only
 -- by holding it (`single-held`). Another meaning of `meetsRule` is paid for here: no other proof unfolds it but the tables of

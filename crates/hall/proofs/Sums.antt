@@ -1,7 +1,7 @@
 -- The exact total: a plan's cost and held number are the sums over its held devices, as numbers.
 --
--- In order: the two sums (`cost-sum`, `held-sum`); how large a cost can be (`cost-most`, `cost-in-range`). A whole answer at the
--- largest total, 200 devices at 1,000,000,000, is Largest. Assumes nothing.
+-- In order: the two sums (`cost-sum`, `held-sum`); how large a device's cost can be (`cost-at-most`), and a plan's (`cost-most`,
+-- `cost-in-range`). A whole answer at the largest total, 200 devices at 1,000,000,000, is Largest. Assumes nothing.
 use mathlib.Core.Path.{_≡_, refl, _∙_}
 use mathlib.Core.List.{List, [], _∷_}
 use Prim.Native.Nat.{ℕ, zero, suc, _+_, _*_, _≤_, zero-le}
@@ -58,6 +58,11 @@ pub held-sum : {h : Hall} (p : Plan) → PlanOf h p → heldOf p ≡ length (hel
 held-sum p k = held-from 0 p (k .marks)
 
 -- ── how large a cost can be ──
+pub cost-at-most : (most : ℕ) (costs : List ℕ) → Each (λ c. c ≤ most) costs → (d : ℕ) → getD costs d 0 ≤ most
+cost-at-most most [] k d = zero-le
+cost-at-most most (c ∷ costs) k zero = k .0
+cost-at-most most (c ∷ costs) k (suc d) = cost-at-most most costs (k .1) d
+
 pub cost-most : (most : ℕ) (cs : List ℕ) → Each (λ c. c ≤ most) cs → (p : Plan) → costOf cs p ≤ length cs * most
 unfolding costOf ifHeld
 cost-most most [] a p = zero-le

@@ -1,9 +1,4 @@
-// Standard input, read into a lent room; and the two rooms that a program lends. Shared by the programs that answer what they are fed.
-//
-// Each room is made by a function of its own: where a function that proves something wrote `[0; 60001]` itself, the elements would be
-// spelled out in its every goal.
-ghost use mathlib.Core.Path.{_≡_};
-ghost use lib.ListN.{replicate};
+// Standard input, read into a lent room. Shared by the programs that answer what they are fed.
 ghost use Rattle.input.specs.Input.{Within};
 use libc::STDIN_FILENO;
 
@@ -11,20 +6,6 @@ use libc::STDIN_FILENO;
 pub enum Input {
     Bytes(usize),
     Failed,
-}
-
-// One byte more than the longest text that is not refused for its length.
-pub fn text_room() -> [u8; 60001]
-    ensures { λ r. ⌜ r ≡ replicate 60001 0 ⌝ }
-{
-    [0u8; 60001]
-}
-
-// Room for any reply.
-pub fn reply_room() -> [u8; 1024]
-    ensures { λ r. ⌜ r ≡ replicate 1024 0 ⌝ }
-{
-    [0u8; 1024]
 }
 
 // One read, of as much as the input has ready; no bytes at its end.

@@ -1,11 +1,13 @@
 -- Laws of `inFront`: what stands in front (`front-stands`), the rest of the room (`rest-stays`), its length (`room-as-long`,
--- `front-fits`), one element more in front (`front-grows`, `front-adds`), another in one's place (`front-changes`), a longer list in
--- front of that (`front-again`); stores from the front of a room on that has place for them (`sets-in-front`), one run of stores behind
--- another (`sets-append`), rooms that stores make equal are equally long (`sets-as-long`). Assumes nothing.
+-- `front-fits`); what a caller has who was told how many stand in front: so many lie within the room (`front-within`), and are its first
+-- ones (`front-taken`); one element more in front (`front-grows`, `front-adds`), another in one's place (`front-changes`), a longer list
+-- in front of that (`front-again`); stores from the front of a room on that has place for them (`sets-in-front`), one run of stores
+-- behind another (`sets-append`), rooms that stores make equal are equally long (`sets-as-long`). Assumes nothing.
 use mathlib.Core.Path.{_≡_, refl, sym, _∙_, ap}
 use mathlib.Core.List.{List, [], _∷_, _++_, append-assoc}
 use Prim.Native.Nat.{ℕ, suc, _+_, _-_, _≤_, _<_}
 use native.Mathlib.Numerals.{add-one}
+use native.Mathlib.Nat.{sub-zero}
 use native.Mathlib.Omega.{arith}
 use lib.ListN.{length, getD, take, drop, set, length-append, length-drop}
 use lib.Seq.{length-take-le, take-suc, drop-cons, take-append-seam, drop-append-seam, drop-drop, set-at, sets, length-sets, sets-eq}
@@ -23,6 +25,13 @@ module _ {A : Type 0} where
 
   pub front-fits : (front room : List A) → length front ≤ length (inFront front room)
   front-fits front room = omega (arith, length-append front (drop (length front) room))
+
+  module _ (front room after : List A) (k : ℕ) (many : k ≡ length front) (stands : after ≡ inFront front room) where
+    pub front-within : k ≤ length after
+    front-within = omega (arith, ap length stands, front-fits front room)
+
+    pub front-taken : take (k - 0) after ≡ front
+    front-taken = ap (λ (i : ℕ). take i after) (sub-zero k ∙ many) ∙ ap (take (length front)) stands ∙ front-stands front room
 
   pub front-grows : (front room : List A) (i : ℕ) (d : A) → i < length front → length front ≤ length room
       → set (inFront (take i front) room) i (getD front i d) ≡ inFront (take (i + 1) front) room

@@ -15,9 +15,10 @@ use Rattle.typed.specs.Text as text
 use Rattle.typed.specs.Printing.{digitsBy, digitsOf}
 use Rattle.dimacs.specs.Stage.{sheetSoFar}
 use Rattle.dimacs.specs.File as cnf
-use Rattle.reply.specs.Printed.{spaced, printedAnswer, printedFor, printedForFile}
+use Rattle.printing.specs.Lines.{spaced}
+use Rattle.printing.proofs.Digits.{decimal-is}
+use Rattle.reply.specs.Printed.{printedAnswer, printedFor, printedForFile}
 use Rattle.reply.specs.Table.{Row, output, outputOfFile, rows, fileRows, million, fiveBillion, largestOf64}
-use Rattle.reply.proofs.Digits.{decimal-is}
 
 pub rows-right : map output rows ≡ map (λ (r : Row). r .printed) rows
 unfolding rows printedFor text.readText text.readTokens text.numberOf text.decimal text.tokensFrom text.front answer decode decodeBy hall allRules rule times walkHall walkFrom start walk node nodeBy opening through entryBy after still shut closes oneMore keep better rank less heldFrom heldOf costOf ifHeld firstUnmet meetsAll meetsRule namesBoth among holdsOne hold isFree holds wordsOf spaced digitsBy

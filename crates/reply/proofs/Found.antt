@@ -16,9 +16,9 @@ use Rattle.sheet.proofs.Faults.{fault-kind}
 use Rattle.search.specs.Contract.{numbersOf, Finds}
 use Rattle.search.proofs.Finds.{Matches, match}
 use Rattle.search.specs.declared.Answer.{Answer}
+use Rattle.printing.proofs.InRoom.{in-room-as}
 use Rattle.reply.specs.Printed.{printedAnswer, printedSearch}
 use Rattle.reply.specs.Contract.{linesOf, Prints, Searched}
-use Rattle.reply.proofs.InRoom.{in-room-as}
 
 -- ── the marks behind a plan ──
 free-none : (v k n : ℕ) → heldFrom v (drop k (replicate n 0)) ≡ []
@@ -56,4 +56,4 @@ printed-found words marks found plan before r after blank finds kept p =
     let a = answer words 1000000 200 in
     let told : numbersOf found ≡ numbers a = finds .says ∙ ap (λ (k : ℕ). numbers (answer words 1000000 k)) n in
     let room : plan ≡ roomAfter a (replicate 200 0) = finds .room ∙ ap (λ (k : ℕ). roomAfter (answer words 1000000 k) marks) n ∙ ap (roomAfter a) blank in
-    in-room-as (linesOf found plan) before r after (printedSearch words) (same-lines plan (omega arith) found a told room) p
+    in-room-as 1024 (linesOf found plan) before r after (printedSearch words) (same-lines plan (omega arith) found a told room) p

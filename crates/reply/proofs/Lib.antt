@@ -1,14 +1,10 @@
 -- Laws, in the order in which the functions need them; then what the contracts give. AnswerTable stands apart: it computes the tables
 -- of known texts and files.
 pub mod AnswerTable
-pub mod Digits
-pub mod Putting
-pub mod Items
+pub mod Devices
 pub mod Lengths
-pub mod InRoom
 pub mod Prints
 pub mod Found
-pub mod WordsRead
 pub mod Replies
 pub mod RepliesFile
 pub mod Only

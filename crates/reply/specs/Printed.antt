@@ -1,13 +1,11 @@
 -- What `leastplan` and `cnfplan` print. 01, "What leastplan prints"; 02, requests 1 to 3.
 --
--- In order: items behind blanks; a line; the line of the held devices; a refusal; an answer; the words of a sheet; a text that was
--- read; the whole, from the text that was typed; a file that was read; the whole, from the file. The digits of a number are those of
--- Rattle.typed.specs.Printing, none of them a leading zero. Definitions only.
+-- In order: the line of the held devices; an answer; the words of a sheet; a text that was read; the whole, from the text that was typed;
+-- a file that was read; the whole, from the file. The lines are those of Rattle.printing.specs.Lines. Definitions only.
 use mathlib.Core.List.{List, [], _∷_, _++_}
 use Prim.Native.Nat.{ℕ}
 use lib.IntN.{ℤ}
 use Rattle.lists.specs.Bytes.{bytes}
-use Rattle.hall.specs.Hall.{Entry}
 use Rattle.hall.specs.Order.{heldEntries}
 use Rattle.hall.specs.Ranges.{wordsOf, entryWords, words}
 use Rattle.hall.specs.Reading as sheet
@@ -15,32 +13,12 @@ use Rattle.hall.specs.Answer.{Answer, least, none, spent, refused, answer}
 use Rattle.typed.specs.Text as text
 use Rattle.typed.specs.Printing.{digitsOf, printedWord}
 use Rattle.dimacs.specs.File as cnf
-
--- "a blank and an entry for each": what is printed of each item, behind a blank
-unfoldable pub spaced : {A : Type 0} → (A → List ℕ) → List A → List ℕ
-spaced f [] = []
-spaced f (a ∷ l) = bytes " " ++ (f a ++ spaced f l)
-
--- "each line closed by byte 10"
-abbrev pub lineEnd : List ℕ
-lineEnd = bytes "\n"
-
--- a word, its items, the end
-abbrev pub line : {A : Type 0} → List ℕ → (A → List ℕ) → List A → List ℕ
-line word f items = word ++ (spaced f items ++ lineEnd)
+use Rattle.printing.specs.Lines.{line, refusedLine}
 
 -- "a line `hold` followed by a blank and an entry for each held device in rising order, without a plus (the word alone where
 -- nothing is held)": the entries as a sheet has them, a minus in front of one that is held at 0
 abbrev pub holdLine : List ℕ → List ℕ
 holdLine plan = line (bytes "hold") printedWord (wordsOf entryWords (heldEntries plan))
-
--- what that line has of some entries
-abbrev pub printedEntries : List Entry → List ℕ
-printedEntries entries = spaced printedWord (wordsOf entryWords entries)
-
--- "`refused CODE PLACE`, for either table"; 02, request 1: "the rule's number .. which `leastplan` prints last"
-abbrev pub refusedLine : (numbers : List ℕ) → List ℕ
-refusedLine numbers = line (bytes "refused") digitsOf numbers
 
 -- "`least COST HELD OPENED`, then a line `hold`"; "`none OPENED`, or `spent 1000000`"
 abbrev pub printedAnswer : Answer → List ℕ

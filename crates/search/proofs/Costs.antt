@@ -1,17 +1,16 @@
 -- Sums of costs along a walk.
 --
--- In order: a plan that holds nothing costs nothing (`start-cost`); holding a free device adds its cost (`hold-cost`); a cost in the
--- list has the list's bound (`cost-at-most`). These are laws of `hall`'s definitions that `hall` itself does not need. Assumes nothing.
+-- In order: a plan that holds nothing costs nothing (`start-cost`); holding a free device adds its cost (`hold-cost`).
+-- These are laws of `hall`'s definitions that `hall` itself does not need. Assumes nothing.
 use mathlib.Core.Path.{_≡_, refl}
 use mathlib.Core.Bool.{true}
 use mathlib.Core.List.{List, [], _∷_}
-use Prim.Native.Nat.{ℕ, zero, suc, _+_, _≤_, zero-le}
+use Prim.Native.Nat.{ℕ, zero, suc, _+_}
 use native.Mathlib.Omega.{arith}
 use lib.ListN.{length, getD, set, replicate}
 use borrow.Author.Tests.{eqb-true}
 use Rattle.hall.specs.Hall.{Entry, at1, at0, device, Plan, isFree, hold}
 use Rattle.hall.specs.Order.{ifHeld, costOf}
-use Rattle.lists.specs.Lists.{Each}
 
 pub start-cost : (costs : List ℕ) (n : ℕ) → costOf costs (replicate n 0) ≡ 0
 unfolding costOf ifHeld
@@ -31,8 +30,3 @@ pub hold-cost : (costs : List ℕ) (p : Plan) (e : Entry) → length p ≡ lengt
 unfolding isFree hold
 hold-cost costs p (at1 v) l f = set-cost costs p v 0 l (eqb-true _ _ f)
 hold-cost costs p (at0 v) l f = set-cost costs p v 1 l (eqb-true _ _ f)
-
-pub cost-at-most : (most : ℕ) (costs : List ℕ) → Each (λ c. c ≤ most) costs → (d : ℕ) → getD costs d 0 ≤ most
-cost-at-most most [] k d = zero-le
-cost-at-most most (c ∷ costs) k zero = k .0
-cost-at-most most (c ∷ costs) k (suc d) = cost-at-most most costs (k .1) d

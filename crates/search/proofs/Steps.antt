@@ -14,7 +14,7 @@ use Rattle.hall.specs.Hall.{Hall, Plan, isFree, hold}
 use Rattle.hall.specs.Order.{costOf, heldOf}
 use Rattle.hall.specs.Walk.{Best, Walked, Walker, still, after, through, opening, walkFrom}
 use Rattle.hall.proofs.Plans.{hold-held, hold-length, held-all}
-use Rattle.hall.proofs.Sums.{cost-most}
+use Rattle.hall.proofs.Sums.{cost-at-most, cost-most}
 use Rattle.hall.proofs.Walks.{walks-on}
 use Rattle.hall.proofs.Bound.{node-one}
 use Rattle.sheet.specs.Coded.{entryOf, entriesOf, hallOf}
@@ -31,7 +31,7 @@ use Rattle.search.specs.Ends.{WentOn, IsSpent}
 use Rattle.search.specs.Node.{alone, Openable, Branches, OpenedAs, Opens}
 use Rattle.search.specs.Walk.{Node, Entries, AtEntries, Walks}
 use Rattle.search.proofs.Codes.{release-hold}
-use Rattle.search.proofs.Costs.{hold-cost, cost-at-most}
+use Rattle.search.proofs.Costs.{hold-cost}
 use Rattle.search.proofs.Unmet.{rule-entries}
 use Rattle.search.proofs.Ends.{still-budgeted, ends-then}
 use Rattle.search.proofs.Nodes.{through-held, through-free}

@@ -6,7 +6,6 @@ use crate::meter::Meter;
 use crate::node::BestSoFar;
 use crate::node::State;
 use crate::plan::copy_plan;
-use crate::plan_room;
 use crate::walk::Went;
 use crate::walk::walk_plan;
 ghost use mathlib.Core.Path.{_≡_};
@@ -69,8 +68,8 @@ pub(crate) fn solve(
     ensures { λ r. ⌜ Gives (hallOf (now (costs .entry)) (now (codes .entry)) (now (starts .entry)) m) budget r (now (room .entry)) (now (room .exit)) ⌝ }
 {
     let n = costs.len();
-    let mut plan = plan_room();
-    let mut best = plan_room();
+    let mut plan = rooms::plan_room();
+    let mut best = rooms::plan_room();
     run(
         costs,
         codes,

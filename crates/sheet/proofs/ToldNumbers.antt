@@ -6,11 +6,10 @@
 use mathlib.Core.Path.{_≡_, refl, _∙_, ap}
 use mathlib.Core.List.{List, [], _∷_}
 use Prim.Native.Nat.{ℕ, _-_, _≤_, _<_}
-use native.Mathlib.Nat.{sub-zero}
 use native.Mathlib.Omega.{arith}
 use lib.ListN.{length, set, take, length-set}
 use Rattle.lists.specs.Lists.{inFront}
-use Rattle.lists.proofs.InFront.{front-stands, room-as-long}
+use Rattle.lists.proofs.InFront.{room-as-long, front-taken}
 use Rattle.sheet.specs.Contract.{numbersAt, Tells}
 use Rattle.sheet.specs.declared.Refusal.{Refusal}
 
@@ -44,7 +43,7 @@ kind-told refusal kind place before r after e t = rw e t
 -- ── a caller ──
 module _ (told before : List ℕ) (r : ℕ) (after : List ℕ) (t : Tells told before r after) where
   pub told-front : take (r - 0) after ≡ told
-  told-front = ap (λ (k : ℕ). take k after) (sub-zero r ∙ t .says) ∙ ap (take (length told)) (t .room) ∙ front-stands told before
+  told-front = front-taken told before after r (t .says) (t .room)
 
   pub told-short : length (take (r - 0) after) ≤ 4
   told-short = let few = t .few in omega (arith, ap length told-front, t .says)

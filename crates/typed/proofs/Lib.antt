@@ -16,4 +16,5 @@ pub mod Reaching
 pub mod Verdicts
 pub mod Answers
 pub mod Only
+pub mod WordsRead
 pub mod Printed

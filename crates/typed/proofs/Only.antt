@@ -1,8 +1,8 @@
 -- What follows from the contract of `read` alone.
 --
 -- In order: the numbers tell the kinds and the answers apart (`code-injective`, `numbers-injective`); two results that the contract allows
--- are equal, the room included (`reads-once`); a text is accepted exactly where it is allowed and fits (`accepted-where`), and refused
--- exactly for its reason (`refused-where`). Assumes nothing.
+-- are equal, the room included (`reads-once`); the answer is the definition's (`reading-is`); a text is refused exactly for its reason
+-- (`refused-where`), and accepted exactly where it is allowed and fits (`accepted-where`). Assumes nothing.
 use mathlib.Core.Path.{_≡_, refl, sym, _∙_, ap, subst}
 use mathlib.Core.Logic.{_↔_}
 use mathlib.Core.Bool.{cond}
@@ -57,13 +57,13 @@ reads-once {r = r} {s = s} x y = (numbers-injective r s (x .says ∙ sym (y .say
 
 -- ── each answer exactly where it is justified ──
 module _ {text : List ℕ} {before : List ℤ} {r : Reading} {after : List ℤ} (x : Reads text before r after) where
-  is : r ≡ readingOf (readText text (length before))
-  is = numbers-injective r (readingOf (readText text (length before))) (x .says)
+  pub reading-is : r ≡ readingOf (readText text (length before))
+  reading-is = numbers-injective r (readingOf (readText text (length before))) (x .says)
 
   pub refused-where : (m : Mistake) (i : ℕ) → (r ≡ Refused m i) ↔ Reason m i text (length before)
   refused-where m i = (
     λ e. subst (λ (s : Reading). Justified text (length before) s after) e (x .reason),
-    λ y. is ∙ ap readingOf (refused-exactly m i text (length before) .1 y),
+    λ y. reading-is ∙ ap readingOf (refused-exactly m i text (length before) .1 y),
   )
 
   -- with the words that it spells, which then stand in front of the room
@@ -72,5 +72,5 @@ module _ {text : List ℕ} {before : List ℤ} {r : Reading} {after : List ℤ} 
     λ e. subst (Accepted text (length before)) (e .1) (subst (λ (s : Reading). Justified text (length before) s after) (e .0) (x .reason)),
     λ y.
         let g = accepted-exactly text (length before) words .1 y in
-        (is ∙ ap readingOf g, ap (take (length words)) (x .room ∙ ap (λ (z : Read (List ℤ)). roomAfter z before) g) ∙ front-stands words before),
+        (reading-is ∙ ap readingOf g, ap (take (length words)) (x .room ∙ ap (λ (z : Read (List ℤ)). roomAfter z before) g) ∙ front-stands words before),
   )

@@ -1,9 +1,9 @@
 -- Words that are printed in decimal, with single blanks between, read back as themselves.
 --
 -- In order: the digits of a number are digits (`digits-each`), say the number (`digits-say`), and are one (`digits-some`) to as many
--- as its power of ten allows (`digits-few`); a printed word is an allowed token with that value (`word-allowed`); one word in front
--- of a text (`spells-word`); printed words are spelled (`printed-spells`) and read back (`printed-reads`, `printed-back`). Assumes
--- nothing.
+-- as its power of ten allows (`digits-few`), laws that serve the texts of crates/reply and crates/wcnf too; a printed word is an
+-- allowed token with that value (`word-allowed`); one word in front of a text (`spells-word`); printed words are spelled
+-- (`printed-spells`) and read back (`printed-reads`, `printed-back`). Assumes nothing.
 use mathlib.Core.Path.{_≡_, refl, sym, _∙_, ap, subst}
 use mathlib.Core.Bool.{Bool, true, false, cond}
 use mathlib.Core.List.{List, [], _∷_, _++_, append-assoc}
@@ -38,7 +38,7 @@ decimal-append n (x ∷ a) b = decimal-append (n * 10 + (x - 48)) a b
 tenth : (k n : ℕ) → n ≤ suc k → 10 ≤ n → n / 10 ≤ k
 tenth k n h l = omega (arith, div-lt-self {n = n} {k = 10} (omega arith) (lit< tt))
 
-digits-each : (k n : ℕ) → n ≤ k → Passing isDigit (digitsBy k n)
+pub digits-each : (k n : ℕ) → n ≤ k → Passing isDigit (digitsBy k n)
 unfolding digitsBy
 digits-each zero n h = (digit-is n (omega arith), tt)
 digits-each (suc k) n h = go (ltb n 10) refl (digits-each k (n / 10))
@@ -50,7 +50,7 @@ digits-each (suc k) n h = go (ltb n 10) refl (digits-each k (n / 10))
         let last = digit-is (n % 10) (mod-lt n {m = 10} (lit< tt)) in
         each-append (λ b. isDigit b ≡ true) (digitsBy k (n / 10)) ((48 + n % 10) ∷ []) (ih (tenth k n h (ltb-false n 10 u))) (last, tt)
 
-digits-say : (k n : ℕ) → n ≤ k → decimal 0 (digitsBy k n) ≡ n
+pub digits-say : (k n : ℕ) → n ≤ k → decimal 0 (digitsBy k n) ≡ n
 unfolding digitsBy decimal
 digits-say zero n h = omega arith
 digits-say (suc k) n h = go (ltb n 10) refl (digits-say k (n / 10))
@@ -62,7 +62,7 @@ digits-say (suc k) n h = go (ltb n 10) refl (digits-say k (n / 10))
         let d = ih (tenth k n h (ltb-false n 10 u)) in
         decimal-append 0 (digitsBy k (n / 10)) (48 + n % 10) ∙ omega (arith, d, div-add-mod' n 10)
 
-digits-some : (k n : ℕ) → 1 ≤ length (digitsBy k n)
+pub digits-some : (k n : ℕ) → 1 ≤ length (digitsBy k n)
 unfolding digitsBy
 digits-some zero n = omega arith
 digits-some (suc k) n = go (ltb n 10)

@@ -1,7 +1,7 @@
 -- `main` is proved: the text that is answered is the part of the room that was read (`bytes-within`), and what is written is the part of the
 -- lines that was put (`reply-within`). Assumes the contracts of libc's `read` and `write`.
 use Rattle.input.proofs.Inputs.{bytes-within}
-use Rattle.reply.proofs.InRoom.{reply-within}
+use Rattle.printing.proofs.InRoom.{reply-within}
 use borrow.Author.Needs.{needs}
 use Rattle.leastplan.proofs.main.Statement.{statement}
 use Rattle.leastplan.proofs.main.Tie as tie

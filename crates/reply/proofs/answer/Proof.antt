@@ -1,6 +1,7 @@
 -- `answer` meets its contract: a text that is refused (`replies-refused`), or one whose words are searched (`replies-words`). Assumes
 -- nothing.
-use Rattle.reply.proofs.Replies.{read-within, replies-refused, replies-words}
+use Rattle.typed.proofs.WordsRead.{read-within}
+use Rattle.reply.proofs.Replies.{replies-refused, replies-words}
 use borrow.Author.Needs.{needs}
 use Rattle.reply.proofs.answer.Statement.{statement}
 use Rattle.reply.proofs.answer.Tie as tie

@@ -1,7 +1,6 @@
--- `print_answer` meets its contract: for each case its lines fit (Lengths) and are the definition's (Prints). Assumes nothing.
+-- `print_answer` meets its contract: for each case its lines are the definition's (Prints). Assumes nothing.
 use native.Mathlib.Omega.{arith}
-use Rattle.sheet.proofs.ToldNumbers.{told-short, told-long}
-use Rattle.reply.proofs.Lengths.{none-fits, spent-fits, least-fits, hold-fits}
+use Rattle.sheet.proofs.ToldNumbers.{told-long}
 use Rattle.reply.proofs.Prints.{prints-least, prints-none, prints-spent, prints-refused}
 use borrow.Author.Needs.{needs}
 use Rattle.reply.proofs.print_answer.Statement.{statement}
@@ -23,10 +22,10 @@ slice-aggregate-put-line-2 : tie.Need-slice-aggregate-put-line-2
 slice-aggregate-put-line-2 c = search needs
 
 put-line-requires : tie.Need-put-line-requires
-put-line-requires c κs = search least-fits
+put-line-requires c κs = search needs
 
 put-hold-requires : tie.Need-put-hold-requires
-put-hold-requires c κs = search hold-fits
+put-hold-requires c κs = search needs
 
 enum-known-answer-2 : tie.Need-enum-known-answer-2
 enum-known-answer-2 c = search needs
@@ -41,7 +40,7 @@ slice-aggregate-put-line-4 : tie.Need-slice-aggregate-put-line-4
 slice-aggregate-put-line-4 c = search needs
 
 put-line-requires-2 : tie.Need-put-line-requires-2
-put-line-requires-2 c κs = search none-fits
+put-line-requires-2 c κs = search needs
 
 enum-known-answer-3 : tie.Need-enum-known-answer-3
 enum-known-answer-3 c = search needs
@@ -56,7 +55,7 @@ slice-aggregate-put-line-6 : tie.Need-slice-aggregate-put-line-6
 slice-aggregate-put-line-6 c = search needs
 
 put-line-requires-3 : tie.Need-put-line-requires-3
-put-line-requires-3 c κs = search spent-fits
+put-line-requires-3 c κs = search needs
 
 enum-known-answer-4 : tie.Need-enum-known-answer-4
 enum-known-answer-4 c = search needs
@@ -78,7 +77,7 @@ part-put-refused-end c =
     search needs
 
 put-refused-requires : tie.Need-put-refused-requires
-put-refused-requires c κs = search (told-short, needs)
+put-refused-requires c κs = search needs
 
 returns : tie.Need-returns
 returns c = search prints-least

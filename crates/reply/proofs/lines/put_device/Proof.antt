@@ -1,6 +1,5 @@
--- `put_device` meets its contract: an entry for a mark of 1 or 2, nothing for any other mark (Items). Assumes nothing.
-use Rattle.reply.proofs.Items.{long-1, long-2, puts-1, puts-2, puts-none}
-use native.Mathlib.Omega.{arith}
+-- `put_device` meets its contract: an entry for a mark of 1 or 2, nothing for any other mark (Devices). Assumes nothing.
+use Rattle.reply.proofs.Devices.{puts-1, puts-2, puts-none}
 use borrow.Author.Needs.{needs}
 use Rattle.reply.proofs.lines.put_device.Statement.{statement}
 use Rattle.reply.proofs.lines.put_device.Tie as tie
@@ -12,7 +11,7 @@ add-put-number : tie.Need-add-put-number
 add-put-number c = search needs
 
 put-number-requires : tie.Need-put-number-requires
-put-number-requires c κs = omega (arith, long-1 (c .before .before .before .before .args .device) (c .before .before .if1 .taken))
+put-number-requires c κs = search needs
 
 same-length : tie.Need-same-length
 same-length c = search needs
@@ -27,7 +26,7 @@ add-put-number-2 : tie.Need-add-put-number-2
 add-put-number-2 c = search needs
 
 put-number-requires-2 : tie.Need-put-number-requires-2
-put-number-requires-2 c κs = omega (arith, long-2 (c .before .before .before .before .before .args .device) (c .before .before .if2 .taken))
+put-number-requires-2 c κs = search needs
 
 same-length-2 : tie.Need-same-length-2
 same-length-2 c = search needs

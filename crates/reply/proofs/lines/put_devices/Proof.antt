@@ -1,10 +1,10 @@
--- `put_devices` meets its contract: the entries of the held devices, one after the other (Items, Putting). Assumes nothing.
+-- `put_devices` meets its contract: the entries of the held devices, one after the other (Devices, `Left`). Assumes nothing.
 use Prim.Native.Nat.{_-_}
 use lib.ListN.{take, drop}
 use Rattle.hall.specs.Order.{heldFrom, heldEntries}
-use Rattle.reply.specs.Printed.{printedEntries}
-use Rattle.reply.proofs.Putting.{Left, left-start, left-length, left-end, left-more}
-use Rattle.reply.proofs.Items.{devices-more, devices-room, devices-end}
+use Rattle.printing.specs.Lines.{printedEntries}
+use Rattle.printing.proofs.Putting.{Left, left-start, left-length, left-end, left-more}
+use Rattle.reply.proofs.Devices.{devices-more, devices-end}
 use borrow.Author.Needs.{needs}
 use Rattle.reply.proofs.lines.put_devices.Statement.{statement}
 use Rattle.reply.proofs.lines.put_devices.Tie as tie
@@ -25,7 +25,7 @@ element-copy-out-put-device : tie.Need-element-copy-out-put-device Inv-loop μ-l
 element-copy-out-put-device c = search needs
 
 put-device-requires : tie.Need-put-device-requires Inv-loop μ-loop
-put-device-requires c κs = (search needs, search devices-room)
+put-device-requires c κs = search needs
 
 add-device : tie.Need-add-device Inv-loop μ-loop
 add-device c = search needs

@@ -1,10 +1,5 @@
--- `put_hold` meets its contract: the word, the entries, the end of the line (`line-puts`), for which there is place (`entries-short`).
--- Assumes nothing.
-use mathlib.Core.List.{List}
-use Prim.Native.Nat.{ℕ}
-use native.Mathlib.Omega.{arith}
-use Rattle.reply.proofs.Putting.{line-puts}
-use Rattle.reply.proofs.Lengths.{entries-short}
+-- `put_hold` meets its contract: the word, the entries, the end of the line (`line-puts`). Assumes nothing.
+use Rattle.printing.proofs.Putting.{line-puts}
 use borrow.Author.Needs.{needs}
 use Rattle.reply.proofs.lines.put_hold.Statement.{statement}
 use Rattle.reply.proofs.lines.put_hold.Tie as tie
@@ -15,15 +10,11 @@ slice-aggregate-put c = search needs
 put-requires : tie.Need-put-requires
 put-requires c κs = search needs
 
--- the plan room, as it was lent
-abbrev marks : tie.After-put-devices-arg → List ℕ
-marks c = c .before .before .before .before .before .before .before .args .plan .now
-
 put-devices-requires : tie.Need-put-devices-requires
-put-devices-requires c κs = omega (arith, entries-short (marks c))
+put-devices-requires c κs = search needs
 
 close-line-requires : tie.Need-close-line-requires
-close-line-requires c κs = omega (arith, entries-short (marks (c .before .before .before .before)))
+close-line-requires c κs = search needs
 
 same-length : tie.Need-same-length
 same-length c = search needs

@@ -1,0 +1,3 @@
+-- What is printed, and where it stands, to be read in this order.
+pub mod Lines
+pub mod Contract
