@@ -1,4 +1,4 @@
-/* The processor's clock, for bench/measure.c, bench/reading.c and bench/writing.c, which ask for POSIX before they include anything. */
+/* The processor's clock, for measure.c, reading.c, writing.c and ties.c, which ask for POSIX before they include anything. */
 #ifndef CLOCK_H
 #define CLOCK_H
 

@@ -1,7 +1,7 @@
 /*
- * How much stack leastplan_search takes on the sheet with the deepest walk, leastplan_answer and leastplan_cnf_answer on the same sheet
- * as text and as a file, and leastplan_wcnf_write on it: 200 devices, the rule 1, then for each i from 1 to 199 a rule of thirty-one
- * times -i and then i + 1, so that every level is reached through the last entry of its rule.
+ * How much stack leastplan_search and leastplan_ties take on the sheet with the deepest walk, leastplan_answer and leastplan_cnf_answer on
+ * the same sheet as text and as a file, and leastplan_wcnf_write on it: 200 devices, the rule 1, then for each i from 1 to 199 a rule of
+ * thirty-one times -i and then i + 1, so that every level is reached through the last entry of its rule.
  *
  * The call runs in a thread on a stack that was filled with a pattern; what is no longer the pattern was used. A thread that
  * calls nothing is measured too, and taken off. Then the search is run on stacks of falling size until one is too small.
@@ -26,7 +26,8 @@ static uint8_t room[200];
 static uint64_t numbers[4];
 static char text[60000], file[60000];
 static size_t length, file_length;
-static uint8_t out[1024], wcnf[98741];
+static uint8_t out[1024], wcnf[98741], plans[51200];
+static uint64_t list_numbers[5];
 
 static void deepest_sheet(void)
 {
@@ -83,6 +84,12 @@ static void *call_with_file(void *unused)
 static void *call_to_write(void *unused)
 {
     leastplan_wcnf_write(words, count, 1, wcnf, sizeof wcnf, numbers);
+    return unused;
+}
+
+static void *call_to_list(void *unused)
+{
+    leastplan_ties(words, count, 1000000, plans, sizeof plans, list_numbers);
     return unused;
 }
 
@@ -164,6 +171,10 @@ int main(void)
     if (numbers[0] != 0 || memcmp(wcnf, start, sizeof start - 1) != 0)
         stop("the deepest sheet has another WCNF text");
     printf("to WCNF text: %zu bytes of stack\n", to_write - thread);
+    size_t to_list = used(call_to_list);
+    if (list_numbers[0] != 0 || list_numbers[1] != 200 || list_numbers[2] != 200 || list_numbers[3] != 1 || list_numbers[4] != 201)
+        stop("the deepest sheet has other ties");
+    printf("to the list of ties: %zu bytes of stack\n", to_list - thread);
     fflush(stdout);
     size_t size = MOST;
     while (size > 16384 && fits(size / 2))

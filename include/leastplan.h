@@ -23,7 +23,7 @@
 extern "C" {
 #endif
 
-/* The first number of an answer, of a reading, of a writing and of a refusal that is printed. */
+/* The first number of an answer, of a reading, of a writing, of a list and of a refusal that is printed. */
 enum {
     LEASTPLAN_LEAST = 0,
     LEASTPLAN_NONE = 1,
@@ -44,7 +44,8 @@ enum {
     LEASTPLAN_NO_HEADER = 31,
     LEASTPLAN_NOT_CLOSED = 32,
     LEASTPLAN_EXTRA_TOKEN = 33,
-    LEASTPLAN_SMALL_TEXT_ROOM = 41
+    LEASTPLAN_SMALL_TEXT_ROOM = 41,
+    LEASTPLAN_TOO_MANY_TIES = 51
 };
 
 /*
@@ -165,6 +166,34 @@ size_t leastplan_cnf_answer(const uint8_t *text, size_t text_len, uint8_t out[10
  * code all of text is unchanged.
  */
 void leastplan_wcnf_write(const int32_t *words, size_t words_len, uint32_t edition, uint8_t *text, size_t text_len, uint64_t numbers[4]);
+
+/*
+ * Lists the ties of the sheet in words[0] to words[words_len - 1]: all plans that meet every rule at the cost of the least plan and with as
+ * many devices held, itself the first of them. It opens the same trial plans as leastplan_search does, at most budget.
+ *
+ * The answer goes to the front of numbers, code first:
+ *
+ *   numbers[0]  meaning                                     numbers[1]          numbers[2]    numbers[3]       numbers[4]
+ *    0          the ties are listed                         cost                devices held  number of plans  nodes opened
+ *    1          no plan meets every rule                    nodes opened        unchanged     unchanged        unchanged
+ *    2          the budget is spent                         the budget          unchanged     unchanged        unchanged
+ *   11          the sheet ends too soon                     words_len           unchanged     unchanged        unchanged
+ *   12          the device count is outside its range       place of that word  unchanged     unchanged        unchanged
+ *   13          a cost is outside its range                 place of that word  unchanged     unchanged        unchanged
+ *   14          an entry is 0 or beyond the device count    place of that word  unchanged     unchanged        unchanged
+ *   15          words stand after the last rule             place of the first  unchanged     unchanged        unchanged
+ *   17          there are more than 16,384 words            16384               unchanged     unchanged        unchanged
+ *   18          the rule count is outside its range         place of that word  unchanged     unchanged        unchanged
+ *   19          the width of a rule is outside its range    place of that word  its rule      unchanged        unchanged
+ *   51          the ties need more bytes than room_len, or  room_len            unchanged     unchanged        unchanged
+ *               are more than 256
+ *
+ * Places are word numbers from 0, rules are numbered from 1; 51 is told only of a walk that came to its end. With code 0 the first bytes of
+ * room are the plans, one behind another, each as leastplan_search gives one: a byte for each device, 0 free, 1 held at position 1, 2 held
+ * at position 0. Each stands there once; at the first device where two plans differ, the one in front has the lower byte. The rest of room
+ * is unchanged. With any other code all of room is unchanged. 51,200 bytes are enough for every list of at most 256 plans.
+ */
+void leastplan_ties(const int32_t *words, size_t words_len, uint32_t budget, uint8_t *room, size_t room_len, uint64_t numbers[5]);
 
 #ifdef __cplusplus
 }

@@ -36,15 +36,38 @@ unsigned char *lend(const void *from, size_t bytes)
     return memcpy(end_of_memory - bytes, from, bytes);
 }
 
+void mark_room(unsigned char *room, size_t bytes)
+{
+    uint32_t pattern = (uint32_t)draw();
+    for (size_t i = 0; i < bytes; i++)
+        room[i] = (unsigned char)((pattern += 0x9e3779b9) >> 24 | 0x80);
+}
+
+void mark_numbers(uint64_t *numbers, int count)
+{
+    for (int i = 0; i < count; i++)
+        numbers[i] = draw() | UINT64_C(1) << 63;
+}
+
+void judge_known(int right, const char *kind, size_t row)
+{
+    if (right)
+        tally.passed++;
+    else {
+        tally.failed++;
+        printf("FAILED: the reference on known %s %zu\n", kind, row);
+    }
+}
+
 /* ---- a sheet */
 
-void show_numbers(const struct sheet *s, const uint64_t *expected, int numbers, const uint64_t *got)
+void show_numbers(const struct sheet *s, const uint64_t *expected, int numbers, const uint64_t *got, int lent)
 {
     printf(", expected");
     for (int i = 0; i < numbers; i++)
         printf(" %llu", (unsigned long long)expected[i]);
     printf(", got");
-    for (int i = 0; i < 4; i++)
+    for (int i = 0; i < lent; i++)
         printf(" %llu", (unsigned long long)got[i]);
     printf(", sheet");
     for (size_t i = 0; i < s->words && i < 400; i++)
@@ -57,7 +80,7 @@ static void show(const struct sheet *s, uint32_t budget, const uint64_t *expecte
     if (tally.failed > 5)
         return;
     printf("FAILED: budget %lu, room %zu", (unsigned long)budget, s->room);
-    show_numbers(s, expected, numbers, got);
+    show_numbers(s, expected, numbers, got, 4);
 }
 
 struct reference_answer compare(const struct sheet *s, uint32_t budget)
@@ -69,8 +92,7 @@ struct reference_answer compare(const struct sheet *s, uint32_t budget)
 
     for (size_t i = 0; i < sizeof room; i++)
         room[i] = (uint8_t)(0x80 | (draw() >> 56));
-    for (int i = 0; i < 8; i++)
-        numbers[i] = draw() | UINT64_C(1) << 63;
+    mark_numbers(numbers, 8);
     memcpy(room_expected, room, sizeof room);
     memcpy(numbers_expected, numbers, sizeof numbers);
     memcpy(numbers_expected + 2, a.number, (size_t)a.numbers * sizeof a.number[0]);

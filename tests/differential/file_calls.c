@@ -45,8 +45,7 @@ struct reference_cnf compare_reading(const struct text *t, size_t room)
 
     for (size_t i = 0; i < AROUND + room + AROUND; i++)
         words[i] = (int32_t)(pattern += 0x9e3779b9);
-    for (int i = 0; i < 8; i++)
-        numbers[i] = draw() | UINT64_C(1) << 63;
+    mark_numbers(numbers, 8);
     memcpy(words_expected, words, bytes);
     memcpy(numbers_expected, numbers, sizeof numbers);
     struct reference_cnf r = reference_cnf_read(t->byte, t->bytes, words_expected + AROUND, room);

@@ -107,16 +107,6 @@ static const struct room_row room_rows[] = {
     {1, 0, 2, {15, 3}, 4, {1, 5, 0, 7}},
 };
 
-static void judge(int right, const char *kind, size_t row)
-{
-    if (right)
-        tally.passed++;
-    else {
-        tally.failed++;
-        printf("FAILED: the reference on known %s %zu\n", kind, row);
-    }
-}
-
 static void copy(struct sheet *s, const int32_t *word, int words)
 {
     s->words = (size_t)words;
@@ -128,11 +118,11 @@ static void judge_text(const struct sheet *s, uint32_t edition, const char *text
 {
     static unsigned char written[LONGEST_TEXT];
     struct reference_wcnf r = compare_writing(s, edition, length, written);
-    judge(strlen(text) == length && r.numbers == 2 && r.number[0] == 0 && r.number[1] == length && memcmp(written, text, length) == 0, kind, row);
+    judge_known(strlen(text) == length && r.numbers == 2 && r.number[0] == 0 && r.number[1] == length && memcmp(written, text, length) == 0, kind, row);
     if (length == 0)
         return;
     r = compare_writing(s, edition, length - 1, NULL);
-    judge(r.numbers == 2 && r.number[0] == 41 && r.number[1] == length, kind, row);
+    judge_known(r.numbers == 2 && r.number[0] == 41 && r.number[1] == length, kind, row);
 }
 
 /* ---- long texts */
@@ -173,7 +163,7 @@ static void long_texts(void)
     judge_text(&s, 0, long_text("", "h", 0, 0), 9784, "long text", 1);
     judge_text(&s, 1, long_text("p wcnf 400 600 400000000001\n", "400000000001", 0, 0), 12012, "long text", 2);
     long_sheet(&s, 182, 1818);
-    judge(s.words == MOST_WORDS, "long text", 3);
+    judge_known(s.words == MOST_WORDS, "long text", 3);
     judge_text(&s, 0, long_text("", "h", 182, 1818), 74512, "long text", 3);
     judge_text(&s, 1, long_text("p wcnf 400 2600 400000000001\n", "400000000001", 182, 1818), LONGEST_TEXT, "long text", 4);
 }
@@ -194,7 +184,7 @@ void known_wcnf(void)
         const struct room_row *t = &room_rows[i];
         copy(&s, t->word, t->words);
         struct reference_wcnf r = compare_writing(&s, t->edition, t->room, NULL);
-        judge(r.numbers == t->numbers && memcmp(r.number, t->number, (size_t)t->numbers * sizeof r.number[0]) == 0, "text room", i + 1);
+        judge_known(r.numbers == t->numbers && memcmp(r.number, t->number, (size_t)t->numbers * sizeof r.number[0]) == 0, "text room", i + 1);
     }
     long_texts();
     printf("%zu sheets with known WCNF texts, %zu text rooms with known numbers\n", texts + 2, rooms);

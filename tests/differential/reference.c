@@ -4,87 +4,7 @@
  * here is made for speed.
  */
 #include "reference.h"
-#include "reference_sheet.h"
-
-/* ---- plans */
-
-/* The marks in the order of "better": free before held at 1, held at 1 before held at 0. */
-enum { FREE = 0, HELD_AT_1 = 1, HELD_AT_0 = 2 };
-
-struct plan {
-    unsigned char mark[201]; /* mark[v] for device v */
-};
-
-static int device_of(int32_t entry)
-{
-    return entry > 0 ? entry : -entry;
-}
-
-static unsigned char mark_of(int32_t entry)
-{
-    return entry > 0 ? HELD_AT_1 : HELD_AT_0;
-}
-
-/* 01: "one of the rule's entries names a device held at that position" */
-static bool holds_an_entry(const struct plan *p, const int32_t *rule)
-{
-    for (int e = 1; e <= rule[0]; e++)
-        if (p->mark[device_of(rule[e])] == mark_of(rule[e]))
-            return true;
-    return false;
-}
-
-/* 02, request 3: "From now on every plan meets such a rule". */
-static bool meets_rule(const struct hall *s, const struct plan *p, int i)
-{
-    return s->has_both[i] || holds_an_entry(p, s->rule[i]);
-}
-
-/* NULL where the plan meets every rule. */
-static const int32_t *first_rule_not_met(const struct hall *s, const struct plan *p)
-{
-    for (int i = 0; i < s->rules; i++)
-        if (!meets_rule(s, p, i))
-            return s->rule[i];
-    return NULL;
-}
-
-static uint64_t cost(const struct hall *s, const struct plan *p)
-{
-    uint64_t sum = 0;
-    for (int v = 1; v <= s->devices; v++)
-        if (p->mark[v] != FREE)
-            sum += (uint64_t)s->cost[v];
-    return sum;
-}
-
-static int held(const struct hall *s, const struct plan *p)
-{
-    int number = 0;
-    for (int v = 1; v <= s->devices; v++)
-        if (p->mark[v] != FREE)
-            number++;
-    return number;
-}
-
-/* The lowest-numbered device where two plans differ; 0 where they differ nowhere. */
-static int first_difference(const struct hall *s, const struct plan *p, const struct plan *q)
-{
-    for (int v = 1; v <= s->devices; v++)
-        if (p->mark[v] != q->mark[v])
-            return v;
-    return 0;
-}
-
-static bool better(const struct hall *s, const struct plan *p, const struct plan *q)
-{
-    if (cost(s, p) != cost(s, q))
-        return cost(s, p) < cost(s, q);
-    if (held(s, p) != held(s, q))
-        return held(s, p) < held(s, q);
-    int v = first_difference(s, p, q);
-    return v != 0 && p->mark[v] < q->mark[v];
-}
+#include "reference_plan.h"
 
 /* ---- the walk */
 
@@ -93,20 +13,33 @@ struct walk {
     uint32_t budget, opened;
     bool has_best;
     struct plan best;
-    uint64_t by_number, by_marks;
+    bool tied; /* another plan equals the best in cost and held number */
+    uint64_t by_number, by_marks, ties_lowered;
 };
+
+/* How a plan that meets every rule is told apart from the best so far. */
+static void count_difference(struct walk *w, const struct plan *p)
+{
+    const struct hall *s = w->sheet;
+    bool same_cost = cost(s, p) == cost(s, &w->best), same_number = held(s, p) == held(s, &w->best);
+    if (same_cost && !same_number)
+        w->by_number++;
+    if (same_cost && same_number && first_difference(s, p, &w->best) != 0) {
+        w->by_marks++;
+        w->tied = true;
+    }
+    if (!(same_cost && same_number) && better(s, p, &w->best)) {
+        w->ties_lowered += w->tied;
+        w->tied = false;
+    }
+}
 
 /* Step 1, for a plan that meets every rule. */
 static void offer(struct walk *w, const struct plan *p)
 {
-    const struct hall *s = w->sheet;
-    if (w->has_best && cost(s, p) == cost(s, &w->best)) {
-        if (held(s, p) != held(s, &w->best))
-            w->by_number++;
-        else if (first_difference(s, p, &w->best) != 0)
-            w->by_marks++;
-    }
-    if (!w->has_best || better(s, p, &w->best)) {
+    if (w->has_best)
+        count_difference(w, p);
+    if (!w->has_best || better(w->sheet, p, &w->best)) {
         w->has_best = true;
         w->best = *p;
     }
@@ -130,8 +63,7 @@ static bool open_entries(struct walk *w, const struct plan *p, const int32_t *ru
 {
     for (int e = 1; e <= rule[0]; e++)
         if (p->mark[device_of(rule[e])] == FREE) {
-            struct plan child = *p;
-            child.mark[device_of(rule[e])] = mark_of(rule[e]);
+            struct plan child = holding(p, rule[e]);
             if (!open_node(w, &child))
                 return false;
         }
@@ -189,6 +121,7 @@ static struct reference_answer walked_answer(const struct hall *s, uint32_t budg
         a = least_answer(s, &w.best, w.opened);
     a.by_number = w.by_number;
     a.by_marks = w.by_marks;
+    a.ties_lowered = w.ties_lowered;
     return a;
 }
 

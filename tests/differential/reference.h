@@ -1,4 +1,4 @@
-/* The answers of document 01, with requests 1 to 4 of document 02, by the reference. */
+/* The answers of document 01, with requests 1 to 5 of document 02, by the reference. */
 #ifndef REFERENCE_H
 #define REFERENCE_H
 
@@ -13,6 +13,7 @@ struct reference_answer {
     unsigned char plan[200]; /* code 0: 0 free, 1 held at 1, 2 held at 0 */
     /* of a search: how often two plans of equal cost were told apart by the held number, and by the marks */
     uint64_t by_number, by_marks;
+    uint64_t ties_lowered; /* of a search: how often a lower cost or number was found after plans that tied */
     int both_rules; /* of the rules that were read whole: how many hold both entries of one device */
 };
 
@@ -47,6 +48,25 @@ struct reference_wcnf {
 
 /* Writes the text of a sheet into a room for so many bytes, which a refusal leaves unchanged: edition 0 is that from 2022, all others before. */
 struct reference_wcnf reference_wcnf_write(const int32_t *word, size_t words, uint32_t edition, unsigned char *text, size_t room);
+
+/* What the list of ties comes to. */
+struct reference_ties {
+    uint64_t number[5]; /* 0, cost, devices held, number of plans, nodes opened; else the code, then what is returned, as of a search */
+    int numbers;        /* how many of them there are: 5 for code 0, 3 for 19, else 2 */
+    /* codes 0 and 51: how many plans tie, 257 for all numbers beyond 256; the bytes that so many need; the nodes opened */
+    int plans;
+    size_t bytes;
+    uint32_t opened;
+    int again, earlier;    /* of the plans that tie: how many were met once more, how many behind one that they come before */
+    uint64_t ties_lowered; /* as of the search */
+    int both_rules;
+};
+
+/* Lists the ties of a sheet under a budget, in a room of so many bytes, which all codes but 0 leave unchanged. */
+struct reference_ties reference_ties_list(const int32_t *word, size_t words, uint32_t budget, unsigned char *room, size_t bytes);
+
+/* The same list for a sheet that has a least plan, by trying every plan: for a few devices. At most 256 plans are written. */
+int reference_ties_tried(const int32_t *word, size_t words, unsigned char *room);
 
 /* What leastplan and cnfplan print for an answer, or for a refusal (its numbers as the answer's); returns the number of bytes. */
 size_t reference_print(const struct reference_answer *a, char *to);

@@ -1,6 +1,6 @@
 /*
  * Sheets made from a seed: small ones that are walked to their end, larger ones up to every limit of document 01, and damaged ones
- * for each of its refusals. Those whose rules name both positions of a device are in both.c.
+ * for each of its refusals. Those whose rules name both positions of a device are in both.c, those with many ties in tied.c.
  */
 #include "sheets.h"
 
@@ -25,8 +25,7 @@ static int32_t some_cost(int kind)
     }
 }
 
-/* A rule of one of n devices. Some entries repeat an earlier one of the rule, or its other position. */
-static void put_rule(struct sheet *s, int n, int width, int odd)
+void put_rule(struct sheet *s, int n, int width, int odd)
 {
     put(s, 'w', width);
     size_t first = s->words;

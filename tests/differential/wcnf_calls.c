@@ -14,7 +14,7 @@ static void show(const struct sheet *s, uint32_t edition, size_t room, const str
     if (tally.failed > 5)
         return;
     printf("FAILED: edition %lu, room of %zu bytes", (unsigned long)edition, room);
-    show_numbers(s, r->number, r->numbers, got);
+    show_numbers(s, r->number, r->numbers, got, 4);
 }
 
 static void count(const struct reference_wcnf *r, uint32_t edition, size_t room)
@@ -38,12 +38,9 @@ struct reference_wcnf compare_writing(const struct sheet *s, uint32_t edition, s
     static unsigned char text[AROUND + LONGEST_TEXT_ROOM + AROUND], text_expected[AROUND + LONGEST_TEXT_ROOM + AROUND];
     uint64_t numbers[2 + 4 + 2], numbers_expected[8];
     size_t bytes = AROUND + room + AROUND;
-    uint32_t pattern = (uint32_t)draw();
 
-    for (size_t i = 0; i < bytes; i++)
-        text[i] = (unsigned char)((pattern += 0x9e3779b9) >> 24 | 0x80);
-    for (int i = 0; i < 8; i++)
-        numbers[i] = draw() | UINT64_C(1) << 63;
+    mark_room(text, bytes);
+    mark_numbers(numbers, 8);
     memcpy(text_expected, text, bytes);
     memcpy(numbers_expected, numbers, sizeof numbers);
     struct reference_wcnf r = reference_wcnf_write(s->word, s->words, edition, text_expected + AROUND, room);

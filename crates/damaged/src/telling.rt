@@ -1,6 +1,6 @@
 // How an answer is printed.
 use libc::STDOUT_FILENO;
-use sheet::Refusal;
+use refusals::Refusal;
 use sheet::Sheet;
 use typed::Reading;
 
@@ -21,7 +21,7 @@ fn word(w: i32) {
 // The numbers of a refusal: `refused CODE PLACE`, for a width `refused 19 PLACE RULE`.
 fn tell_refusal(kind: Refusal, place: usize) {
     let mut numbers = [0u64; 4];
-    let count = sheet::numbers_of(kind, place, &mut numbers);
+    let count = refusals::numbers_of(kind, place, &mut numbers);
     io::write_all(STDOUT_FILENO, b"refused");
     number(numbers[0]);
     number(numbers[1]);

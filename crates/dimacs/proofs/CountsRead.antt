@@ -16,11 +16,11 @@ use borrow.Author.Tests.{le-leb, lt-leb}
 use mir.Syntax.{w32}
 use mir.Val.{toZ, ofZ}
 use Rattle.hall.specs.Reading.{upTo, onlyIf}
-use Rattle.sheet.specs.Word.{splitOf}
-use Rattle.sheet.specs.declared.Refusal.{Refusal}
-use Rattle.sheet.specs.declared.Refusal.the-variants.{BadDeviceCount, BadRuleCount}
-use Rattle.sheet.specs.declared.Split.{Split}
-use Rattle.sheet.specs.declared.Split.the-variants.{Up, Down}
+use Rattle.refusals.specs.Word.{splitOf}
+use Rattle.refusals.specs.declared.Refusal.{Refusal}
+use Rattle.refusals.specs.declared.Refusal.the-variants.{BadDeviceCount, BadRuleCount}
+use Rattle.refusals.specs.declared.Split.{Split}
+use Rattle.refusals.specs.declared.Split.the-variants.{Up, Down}
 use Rattle.typed.specs.Text.{got, tokensAt}
 use Rattle.typed.specs.Next.{nextOf}
 use Rattle.typed.specs.declared.Mistake.{Mistake}

@@ -15,7 +15,7 @@ use borrow.Author.Tests.{ltb-false}
 use Rattle.lists.specs.Lists.{inFront}
 use Rattle.hall.specs.Hall.{Rule, Hall}
 use Rattle.hall.specs.Ranges.{ruleWords, words}
-use Rattle.sheet.specs.declared.Refusal.the-variants.{BadEntry, BadWidth}
+use Rattle.refusals.specs.declared.Refusal.the-variants.{BadEntry, BadWidth}
 use Rattle.typed.specs.Text.{tokensAt}
 use Rattle.typed.specs.Next.{nextOf}
 use Rattle.typed.specs.declared.Mistake.{Mistake}

@@ -11,7 +11,7 @@ use lib.Dec.{leb, ltb}
 use borrow.Author.Tests.{le-leb, lt-leb, lt-ltb, le-ltb}
 use Rattle.hall.specs.Hall.{at1, at0}
 use Rattle.hall.specs.Reading.{onlyIf}
-use Rattle.sheet.specs.declared.Refusal.the-variants.{BadEntry, BadWidth}
+use Rattle.refusals.specs.declared.Refusal.the-variants.{BadEntry, BadWidth}
 use Rattle.typed.specs.declared.Mistake.the-variants.{NoRoom}
 use Rattle.dimacs.specs.declared.Flaw.the-variants.{Text, Sheet, ExtraToken}
 use Rattle.dimacs.specs.declared.clauses.Named.{Named}

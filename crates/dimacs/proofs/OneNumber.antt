@@ -19,7 +19,7 @@ use Rattle.hall.specs.Ranges.{RuleInRange, wordsOf, entryWords}
 use Rattle.hall.specs.Reading.{onlyIf, upTo}
 use Rattle.hall.specs.Due.{size, fromZeroTo}
 use Rattle.hall.proofs.Words.{words-append, words-one}
-use Rattle.sheet.specs.declared.Refusal.the-variants.{BadDeviceCount, BadEntry, BadRuleCount, BadWidth}
+use Rattle.refusals.specs.declared.Refusal.the-variants.{BadDeviceCount, BadEntry, BadRuleCount, BadWidth}
 use Rattle.dimacs.specs.declared.Flaw.{Flaw}
 use Rattle.dimacs.specs.declared.Flaw.the-variants.{Sheet, ExtraToken}
 use Rattle.dimacs.specs.Stage.{Stage, variables, clauses, inside}

@@ -21,9 +21,8 @@ use Rattle.hall.specs.Reading.{Fault, refusalNumbers, got, decode}
 use Rattle.hall.proofs.Words.{words-injective}
 use Rattle.hall.proofs.Sheets.{accepted}
 use Rattle.hall.proofs.Refusals as refusals
-use Rattle.sheet.specs.Check.{kindOf}
-use Rattle.sheet.specs.Contract.{faultOf}
-use Rattle.sheet.proofs.Faults.{kind-fault}
+use Rattle.refusals.specs.Contract.{faultOf, kindOf}
+use Rattle.refusals.proofs.Faults.{kind-fault}
 use Rattle.typed.specs.declared.Mistake.the-variants.{WrongByte, BadNumber, TooLong, NoRoom}
 use Rattle.typed.proofs.Only.{mistakeOf}
 use Rattle.dimacs.specs.declared.Flaw.{Flaw}

@@ -16,7 +16,7 @@ use borrow.Author.Tests.{leb-true, leb-false, ltb-true, lt-ltb, le-ltb}
 use Rattle.hall.specs.Hall.{Entry, at1, at0, Rule}
 use Rattle.hall.specs.Ranges.{entryWords, ruleWords}
 use Rattle.hall.specs.Reading.{onlyIf, asEntry}
-use Rattle.sheet.specs.declared.Refusal.the-variants.{BadEntry, BadWidth}
+use Rattle.refusals.specs.declared.Refusal.the-variants.{BadEntry, BadWidth}
 use Rattle.typed.specs.Text.{got, Token, tokensAt, valueOf}
 use Rattle.typed.specs.Next.{nextOf}
 use Rattle.typed.specs.declared.Mistake.{Mistake}

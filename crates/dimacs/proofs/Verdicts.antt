@@ -14,7 +14,7 @@ use lib.Dec.{ltb}
 use borrow.Author.Tests.{ltb-true, ltb-false, lt-ltb, le-ltb}
 use Rattle.lists.specs.Bytes.{bytes}
 use Rattle.hall.specs.Hall.{Hall}
-use Rattle.sheet.specs.declared.Refusal.the-variants.{TooShort, BadDeviceCount, BadCost, BadEntry, ExtraWords, SmallRoom, BadRuleCount, BadWidth, TooLong as SheetTooLong}
+use Rattle.refusals.specs.declared.Refusal.the-variants.{TooShort, BadDeviceCount, BadCost, BadEntry, ExtraWords, SmallRoom, BadRuleCount, BadWidth, TooLong as SheetTooLong}
 use Rattle.typed.specs.Text.{isSeparator, front, Token, tokensFrom, placed}
 use Rattle.typed.specs.Text as typed
 use Rattle.typed.specs.Allowed.{nothing}

@@ -13,9 +13,9 @@ use lib.Dec.{leb, ltb, eqb}
 use Rattle.lists.specs.Bytes.{bytes}
 use Rattle.hall.specs.Hall.{Entry, Rule, Hall}
 use Rattle.hall.specs.Reading.{upTo, asEntry}
-use Rattle.sheet.specs.Contract.{numbersAt}
-use Rattle.sheet.specs.declared.Refusal.{Refusal}
-use Rattle.sheet.specs.declared.Refusal.the-variants.{BadDeviceCount, BadEntry, BadRuleCount, BadWidth}
+use Rattle.refusals.specs.Contract.{numbersAt}
+use Rattle.refusals.specs.declared.Refusal.{Refusal}
+use Rattle.refusals.specs.declared.Refusal.the-variants.{BadDeviceCount, BadEntry, BadRuleCount, BadWidth}
 use Rattle.typed.specs.Text as typed
 use Rattle.typed.specs.Text.{mistakeCode, isSeparator, Token, tokensAt, valueOf}
 use Rattle.typed.specs.declared.Mistake.the-variants.{TooLong, NoRoom}

@@ -16,9 +16,9 @@ use Rattle.hall.specs.Due.{size, fromZeroTo}
 use Rattle.typed.specs.Text.{isSeparator, inToken}
 use Rattle.typed.specs.Allowed.{Passing, Allowed}
 use Rattle.typed.specs.Reasons.{Wrong, Bad, HasManyBytes}
-use Rattle.sheet.specs.declared.Refusal.{Refusal}
-use Rattle.sheet.specs.declared.Refusal.the-variants.{TooShort, BadDeviceCount, BadCost, BadEntry, ExtraWords, SmallRoom, BadRuleCount, BadWidth}
-use Rattle.sheet.specs.declared.Refusal.the-variants.{TooLong as SheetTooLong}
+use Rattle.refusals.specs.declared.Refusal.{Refusal}
+use Rattle.refusals.specs.declared.Refusal.the-variants.{TooShort, BadDeviceCount, BadCost, BadEntry, ExtraWords, SmallRoom, BadRuleCount, BadWidth}
+use Rattle.refusals.specs.declared.Refusal.the-variants.{TooLong as SheetTooLong}
 use Rattle.typed.specs.declared.Mistake.{Mistake}
 use Rattle.typed.specs.declared.Mistake.the-variants.{WrongByte, BadNumber, TooLong, NoRoom}
 use Rattle.dimacs.specs.declared.Flaw.{Flaw}

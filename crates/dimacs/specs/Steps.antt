@@ -11,8 +11,8 @@ use lib.IntN.{ℤ, pos, negsuc}
 use lib.Dec.{leb, ltb}
 use Rattle.hall.specs.Hall.{Entry, Hall}
 use Rattle.hall.specs.Reading.{upTo, asEntry}
-use Rattle.sheet.specs.declared.Refusal.{Refusal}
-use Rattle.sheet.specs.declared.Refusal.the-variants.{BadEntry, BadWidth}
+use Rattle.refusals.specs.declared.Refusal.{Refusal}
+use Rattle.refusals.specs.declared.Refusal.the-variants.{BadEntry, BadWidth}
 use Rattle.typed.specs.Text.{got, Token, tokensAt, valueOf}
 use Rattle.typed.specs.declared.Mistake.the-variants.{NoRoom}
 use Rattle.dimacs.specs.declared.Flaw.the-variants.{Text, Sheet, NoHeader, ExtraToken}

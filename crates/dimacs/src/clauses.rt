@@ -9,8 +9,8 @@ ghost use Rattle.dimacs.specs.Contract.{roomAfter};
 ghost use Rattle.dimacs.specs.Steps.{namedOf, Small, judgedOf, ScanFits, Scans, FillFits};
 use crate::Filed;
 use crate::Flaw;
-use sheet::Refusal;
-use sheet::Split;
+use refusals::Refusal;
+use refusals::Split;
 use typed::Mistake;
 use typed::Next;
 
@@ -32,7 +32,7 @@ enum Judged {
 fn named_by(z: i32, n: u32) -> Named
     ensures { λ r. ⌜ r ≡ namedOf n z ⌝ }
 {
-    match sheet::split_sign(z) {
+    match refusals::split_sign(z) {
         Split::Up(v) => {
             if v == 0 {
                 return Named::Zero;

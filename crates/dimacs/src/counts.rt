@@ -5,8 +5,8 @@ ghost use Rattle.dimacs.specs.Stage.{inside, sheetSoFar};
 ghost use Rattle.dimacs.specs.Steps.{CountIs, CountsAre, CountsFit};
 ghost use mathlib.Core.List.{[]};
 use crate::Flaw;
-use sheet::Refusal;
-use sheet::Split;
+use refusals::Refusal;
+use refusals::Split;
 use typed::Mistake;
 use typed::Next;
 
@@ -29,7 +29,7 @@ fn count_at(text: &[u8], from: usize, most: u32, kind: Refusal) -> Count
     match typed::next_word(text, from) {
         Next::End => Count::Bad(Flaw::NoHeader, text.len()),
         Next::Bad(mistake, place) => Count::Bad(Flaw::Text(mistake), place),
-        Next::Found(z, start, end) => match sheet::split_sign(z) {
+        Next::Found(z, start, end) => match refusals::split_sign(z) {
             Split::Up(v) => {
                 if v <= most {
                     return Count::Is(v, start, end);

@@ -5,7 +5,7 @@
 // is written; then the sheet is put into the room (counts, clauses). So the room is unchanged on every refusal. Tokens and their
 // values are those of `typed`.
 ghost use mathlib.Core.Path.{_≡_};
-ghost use Rattle.sheet.specs.Contract.{Tells};
+ghost use Rattle.refusals.specs.Contract.{Tells};
 ghost use Rattle.dimacs.specs.File.{flawNumbers, limitOf};
 ghost use Rattle.dimacs.specs.Contract.{Files};
 
@@ -21,7 +21,7 @@ use counts::counts_at;
 use counts::put_counts;
 use header::Header;
 use header::header_end;
-use sheet::Refusal;
+use refusals::Refusal;
 use typed::Mistake;
 
 // The kinds of refusal: those of a typed text; those of a sheet; no header; a clause missing or not closed; a token behind the last
@@ -46,11 +46,11 @@ pub fn numbers_of(flaw: Flaw, place: usize, numbers: &mut [u64; 4]) -> usize
     ensures { λ r. ⌜ Tells (flawNumbers flaw place) (now (numbers .entry)) r (now (numbers .exit)) ⌝ }
 {
     match flaw {
-        Flaw::Text(mistake) => sheet::tell_code(typed::code_of(mistake) as u64, place, numbers),
-        Flaw::Sheet(refusal) => sheet::numbers_of(refusal, place, numbers),
-        Flaw::NoHeader => sheet::tell_code(31, place, numbers),
-        Flaw::NotClosed => sheet::tell_code(32, place, numbers),
-        Flaw::ExtraToken => sheet::tell_code(33, place, numbers),
+        Flaw::Text(mistake) => refusals::tell_code(typed::code_of(mistake) as u64, place, numbers),
+        Flaw::Sheet(refusal) => refusals::numbers_of(refusal, place, numbers),
+        Flaw::NoHeader => refusals::tell_code(31, place, numbers),
+        Flaw::NotClosed => refusals::tell_code(32, place, numbers),
+        Flaw::ExtraToken => refusals::tell_code(33, place, numbers),
     }
 }
 

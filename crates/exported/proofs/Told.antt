@@ -1,21 +1,23 @@
--- What each arm of `leastplan_search`, `leastplan_cnf_read` and `leastplan_wcnf_write` tells is the paper's numbers of the answer,
--- and these are the definition's.
+-- What each arm of `leastplan_search`, `leastplan_cnf_read`, `leastplan_wcnf_write` and `leastplan_ties` tells is the paper's numbers of
+-- the answer, and these are the definition's.
 --
 -- In order: the numbers told so far (`tell-room`, `tell-more`, `tell-end`, `tell-long`); a case of the search's answer whose numbers are
 -- told (`told-case`), and a refusal, whose numbers the sheet's reader tells (`told-refused`); the same for a file that was read
 -- (`told-file`) and for one that was refused (`told-flaw`), and for a text that was written (`told-text`) and one that was not
--- (`told-obstacle`); the edition that a number asks for (`edition-0`, `edition-other`). Assumes nothing.
+-- (`told-obstacle`); the edition that a number asks for (`edition-0`, `edition-other`); a list (`told-list`) and a list that was refused
+-- (`told-hindrance`). Assumes nothing.
 use mathlib.Core.Path.{_≡_, refl, sym, _∙_, ap}
 use mathlib.Core.List.{List}
-use Prim.Native.Nat.{ℕ, zero, suc, _+_, _≤_, _<_}
+use Prim.Native.Nat.{ℕ, zero, suc, _+_, _-_, _≤_, _<_}
 use native.Mathlib.Omega.{arith}
 use lib.ListN.{length, getD, set, take}
 use lib.Seq.{length-take-le, take-all}
 use lib.IntN.{ℤ}
 use Rattle.lists.specs.Lists.{inFront}
 use Rattle.lists.proofs.InFront.{room-as-long, front-grows}
-use Rattle.sheet.specs.Contract.{numbersAt, Tells}
-use Rattle.sheet.specs.declared.Refusal.{Refusal}
+use Rattle.refusals.specs.Contract.{numbersAt, Tells}
+use Rattle.refusals.specs.declared.Refusal.{Refusal}
+use Rattle.refusals.proofs.ToldNumbers.{told-front}
 use Rattle.dimacs.specs.File.{flawNumbers}
 use Rattle.dimacs.specs.Contract as cnf
 use Rattle.dimacs.specs.Contract.{Files}
@@ -25,6 +27,11 @@ use Rattle.dimacs.specs.declared.Flaw.{Flaw}
 use Rattle.search.specs.Contract.{numbersOf, Finds}
 use Rattle.search.specs.declared.Answer.{Answer}
 use Rattle.search.specs.declared.Answer.the-variants.{Refused}
+use Rattle.tied.specs.Contract as ties
+use Rattle.tied.specs.Contract.{hindranceNumbers, ListsTies}
+use Rattle.tied.specs.declared.Hindrance.{Hindrance}
+use Rattle.tied.specs.declared.Tied.{Tied}
+use Rattle.tied.specs.declared.Tied.the-variants as tied
 use Rattle.wcnf.specs.Contract as wcnf
 use Rattle.wcnf.specs.Contract.{obstacleNumbers, Writes}
 use Rattle.wcnf.specs.declared.Edition.{Edition}
@@ -32,7 +39,7 @@ use Rattle.wcnf.specs.declared.Edition.the-variants.{Since2022, Before2022}
 use Rattle.wcnf.specs.declared.Obstacle.{Obstacle}
 use Rattle.wcnf.specs.declared.Written.{Written}
 use Rattle.wcnf.specs.declared.Written.the-variants as written
-use Rattle.exported.specs.Exported.{editionOf, Searches, ReadsFile, WritesText}
+use Rattle.exported.specs.Exported.{editionOf, Searches, ReadsFile, WritesText, ListsPlans}
 
 -- ── the numbers told so far ──
 module _ (all before : List ℕ) (fits : length all ≤ length before) (numbers : List ℕ) (i : ℕ) (so-far : numbers ≡ inFront (take i all) before) where
@@ -97,3 +104,19 @@ module _ {ws : List ℤ} {edition : Edition} {number : ℕ} (asked : edition ≡
 
   pub told-obstacle : {obstacle : Obstacle} {place count : ℕ} → r ≡ written.Refused obstacle place → Tells (obstacleNumbers obstacle place) numbers count numbers′ → WritesText ws number before numbers after numbers′
   told-obstacle e t = told-text e (t .room)
+
+-- ── the numbers of a list ──
+module _ {ws : List ℤ} {budget : ℕ} {before after numbers numbers′ : List ℕ} {r : Tied} (f : ListsTies ws budget before r after) where
+  pub told-list : {s : Tied} → r ≡ s → numbers′ ≡ inFront (ties.numbersOf s) numbers → ListsPlans ws budget before numbers after numbers′
+  told-list {s} e t = record {
+    told = t ∙ ap (λ (front : List ℕ). inFront front numbers) (sym (ap ties.numbersOf e) ∙ f .says);
+    room = f .room;
+    value = r;
+    lists = f;
+  }
+
+  -- the refusal was told in an array of its own, and from there in front of the numbers
+  pub told-hindrance : {hindrance : Hindrance} {place count : ℕ} {own own′ : List ℕ} → r ≡ tied.Refused hindrance place → Tells (hindranceNumbers hindrance place) own count own′
+      → numbers′ ≡ inFront (take (count - 0) own′) numbers → ListsPlans ws budget before numbers after numbers′
+  told-hindrance {hindrance} {place} {count} {own} {own′} e t front =
+      told-list e (front ∙ ap (λ (l : List ℕ). inFront l numbers) (told-front (hindranceNumbers hindrance place) own count own′ t))

@@ -1,6 +1,6 @@
--- The contracts of `leastplan_search`, `leastplan_cnf_read` and `leastplan_wcnf_write`: this paper's numbers in the lent array, the room,
--- and all that the search, the reader or the writer itself promises. 01, "The answer sheet of the search"; 02, requests 2 and 4.
--- Definitions only.
+-- The contracts of `leastplan_search`, `leastplan_cnf_read`, `leastplan_wcnf_write` and `leastplan_ties`: this paper's numbers in the lent
+-- array, the room, and all that the search, the reader, the writer or the list itself promises. 01, "The answer sheet of the search"; 02,
+-- requests 2, 4 and 5. Definitions only.
 use mathlib.Core.Path.{_≡_}
 use mathlib.Core.List.{List}
 use Prim.Native.Nat.{ℕ, zero, suc}
@@ -9,12 +9,15 @@ use lib.IntN.{ℤ}
 use Rattle.lists.specs.Lists.{inFront}
 use Rattle.hall.specs.Answer.{answer, roomAfter}
 use Rattle.hall.specs.Answer as hall
+use Rattle.hall.specs.Listing.{listing, listNumbers, listRoomAfter}
 use Rattle.dimacs.specs.File.{readFile}
 use Rattle.dimacs.specs.Contract as cnf
 use Rattle.dimacs.specs.Contract.{filedOf, Files}
 use Rattle.dimacs.specs.declared.Filed.{Filed}
 use Rattle.search.specs.Contract.{Finds}
 use Rattle.search.specs.declared.Answer.{Answer}
+use Rattle.tied.specs.Contract.{ListsTies}
+use Rattle.tied.specs.declared.Tied.{Tied}
 use Rattle.wcnf.specs.Wcnf.{writing}
 use Rattle.wcnf.specs.Contract as wcnf
 use Rattle.wcnf.specs.Contract.{Writes}
@@ -53,3 +56,12 @@ pub record WritesText (ws : List ℤ) (edition : ℕ) (before numbers : List ℕ
   -- the writer's own answer, and what it is given for
   pub value : Written
   pub writes : Writes ws (editionOf edition) before value after
+
+pub record ListsPlans (ws : List ℤ) (budget : ℕ) (before numbers : List ℕ) (after numbers' : List ℕ) : Type 0 where
+  -- the code and what is returned stand one after another in front of the array; the places behind them are unchanged
+  pub told : numbers' ≡ inFront (listNumbers (listing ws budget (length before))) numbers
+  -- the room afterwards, for every case
+  pub room : after ≡ listRoomAfter (listing ws budget (length before)) before
+  -- the list's own answer, and what it promises in its own words
+  pub value : Tied
+  pub lists : ListsTies ws budget before value after

@@ -1,2 +1,2 @@
--- What the contracts of the exported search, of the exported reader and of the exported writer say.
+-- What the contracts of the exported search, of the exported reader, of the exported writer and of the exported list say.
 pub mod Exported

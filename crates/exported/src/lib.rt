@@ -1,4 +1,5 @@
-// The library for C: the search, the reader of DIMACS files, the replies to a typed text and to a file, and the writer of WCNF text.
+// The library for C: the search, the reader of DIMACS files, the replies to a typed text and to a file, the writer of WCNF text, and the
+// list of the least plans.
 //
 // C has no value with cases, so the answer goes into an array: the code, then what is returned, in the table's order. Every plain
 // name of the archive begins with the library's.
@@ -6,10 +7,11 @@ ghost use mathlib.Core.Path.{_≡_};
 ghost use Prim.Native.Nat.{_≤_};
 ghost use lib.ListN.{length};
 ghost use Rattle.lists.specs.Lists.{inFront};
-ghost use Rattle.exported.specs.Exported.{editionOf, Searches, ReadsFile, WritesText};
+ghost use Rattle.exported.specs.Exported.{editionOf, Searches, ReadsFile, WritesText, ListsPlans};
 ghost use Rattle.reply.specs.Contract.{Replies, RepliesFile};
 use dimacs::Filed;
 use search::Answer;
+use tied::Tied;
 use wcnf::Edition;
 use wcnf::Written;
 
@@ -50,7 +52,7 @@ pub extern "C" fn leastplan_search(
             tell(&told, numbers);
         }
         Answer::Refused(kind, place) => {
-            sheet::numbers_of(kind, place, numbers);
+            refusals::numbers_of(kind, place, numbers);
         }
     }
 }
@@ -116,6 +118,38 @@ pub extern "C" fn leastplan_wcnf_write(
         }
         Written::Refused(obstacle, place) => {
             wcnf::numbers_of(obstacle, place, numbers);
+        }
+    }
+}
+
+// 02, request 5: all plans that equal the least one of a sheet in cost and held number go to the front of the room, best first; their
+// numbers to `numbers`. Those of a refusal come by way of an array of their own, which is shorter.
+#[no_mangle]
+pub extern "C" fn leastplan_ties(
+    words: &[i32],
+    budget: u32,
+    room: &mut [u8],
+    numbers: &mut [u64; 5],
+)
+    ensures { λ _. ⌜ ListsPlans (now (words .entry)) budget (now (room .entry)) (now (numbers .entry)) (now (room .exit)) (now (numbers .exit)) ⌝ }
+{
+    match tied::least_plans(words, budget, room) {
+        Tied::Plans(cost, held, number, opened) => {
+            let told = [0, cost, held as u64, number as u64, opened as u64];
+            tell(&told, numbers);
+        }
+        Tied::None(opened) => {
+            let told = [1, opened as u64];
+            tell(&told, numbers);
+        }
+        Tied::Spent(opened) => {
+            let told = [2, opened as u64];
+            tell(&told, numbers);
+        }
+        Tied::Refused(hindrance, place) => {
+            let mut told = [0u64; 4];
+            let count = tied::numbers_of(hindrance, place, &mut told);
+            tell(&told[0..count], numbers);
         }
     }
 }

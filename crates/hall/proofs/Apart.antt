@@ -13,12 +13,12 @@ use lib.ListN.{length, replicate, getD-replicate}
 use lib.Dec.{eqb}
 use borrow.Author.Tests.{eqb-false, not-true}
 use Rattle.hall.specs.Hall.{Entry, device, Rule, Plan, isFree, hold, meetsRule, meetsAll, firstUnmet}
-use Rattle.lists.specs.Lists.{Each}
+use Rattle.lists.specs.Lists.{Each, In, first, later}
 use Rattle.hall.specs.Ranges.{RuleInRange}
 use Rattle.hall.specs.Bound.{entries, absent, once}
 use Rattle.lists.proofs.Cases.{test, both, and-both}
 use Rattle.hall.proofs.Plans.{hold-extends, hold-apart}
-use Rattle.hall.proofs.Rules.{In, first, later, AllFree, meets-mono, hold-meets, free-unmet}
+use Rattle.hall.proofs.Rules.{AllFree, meets-mono, hold-meets, free-unmet}
 use Rattle.hall.proofs.Unmet.{unmet}
 
 -- no entry here is of e's device

@@ -10,13 +10,13 @@ use Prim.Native.Nat.{ℕ, zero, suc, _*_, _-_, _≤_, _<_, zero-le, min, max}
 use native.Mathlib.Nat.{le-trans, mul-le-mul-right, suc-mul, pow-succ', pow-zero}
 use native.Mathlib.Omega.{arith}
 use lib.ListN.{length}
+use Rattle.lists.specs.Lists.{In, first, later}
 use Rattle.hall.specs.Hall.{Entry, Rule, Hall, Plan, isFree, hold, meetsRule, meetsAll, firstUnmet}
 use Rattle.hall.specs.Order.{heldOf}
 use Rattle.hall.specs.Walk.{Best, noneYet, Walker, shut, still, after, entryBy, through, opening, nodeBy, node, walk, walkFrom, start, walkHall}
 use Rattle.hall.specs.Bound.{widest, powerSum, boundOf}
 use Rattle.lists.proofs.Cases.{Tri, tri, below, level, above}
 use Rattle.hall.proofs.Plans.{hold-held, hold-length, held-all, start-plan}
-use Rattle.hall.proofs.Rules.{In, first, later}
 use Rattle.hall.proofs.Unmet.{unmet, unmet-rules, unmet-falls}
 
 -- ── the power sum ──

@@ -13,13 +13,14 @@ use Prim.Native.Nat.{ℕ, zero, suc, _+_, _*_, _-_, _≤_, _<_, min}
 use native.Mathlib.Nat.{mul-le-mul-right, suc-mul, zero-mul}
 use native.Mathlib.Omega.{arith}
 use lib.ListN.{length, replicate}
+use Rattle.lists.specs.Lists.{In, first, later}
 use Rattle.hall.specs.Hall.{Entry, Rule, Hall, Plan, isFree, hold, firstUnmet}
 use Rattle.hall.specs.Order.{ifHeld, costOf, heldOf}
 use Rattle.hall.specs.Walk.{Best, noneYet, soFar, Walker, still, after, entryBy, through, opening, nodeBy, node, walk, walkFrom, start, walkHall}
 use Rattle.hall.specs.Ranges.{HallInRange}
 use Rattle.hall.specs.Bound.{widest, depth, powerSum, boundOf, EqualityCase, Bounded}
 use Rattle.hall.proofs.Plans.{hold-held, hold-length, held-all, start-plan, start-held}
-use Rattle.hall.proofs.Rules.{In, first, later, AllFree}
+use Rattle.hall.proofs.Rules.{AllFree}
 use Rattle.hall.proofs.Unmet.{unmet}
 use Rattle.hall.proofs.Shut.{All, not-shut}
 use Rattle.hall.proofs.Walks.{child-fuel, no-child}

@@ -12,7 +12,7 @@ use lib.Seq.{ext-getD}
 use borrow.Author.Tests.{eqb-true}
 use Rattle.hall.specs.Hall.{at1, Rule, Plan, holds, meetsRule, meetsAll}
 use Rattle.hall.specs.Order.{heldFrom, sumOf, MeetsSheet, LeastPlan}
-use Rattle.lists.specs.Lists.{Each}
+use Rattle.lists.specs.Lists.{Each, first}
 use Rattle.hall.specs.Ranges.{RuleInRange, HallInRange, wordsOf, ruleWords, words}
 use Rattle.hall.specs.Walk.{walkHall}
 use Rattle.hall.specs.Bound.{entries, absent, once, widest, powerSum, EqualityCase, Bounded}
@@ -21,7 +21,7 @@ use Rattle.hall.specs.Table.{singles, largest}
 use Rattle.lists.proofs.Cases.{and-both, Tri, below, level, above, tri}
 use Rattle.lists.proofs.Each.{each-append, each-replicate}
 use Rattle.hall.proofs.Order.{better-irreflexive}
-use Rattle.hall.proofs.Rules.{first, held-meets, single-held}
+use Rattle.hall.proofs.Rules.{held-meets, single-held}
 use Rattle.hall.proofs.Satisfied.{least-exact}
 use Rattle.hall.proofs.Equality.{opens-exactly, opens-bounded}
 use Rattle.hall.proofs.Answers.{answered-only}

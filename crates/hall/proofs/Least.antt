@@ -1,30 +1,30 @@
 -- Demand 2: the walk's best is the least plan, and there is none exactly where no plan meets every rule.
 --
--- The argument: (1) a best so far never gets worse (`walk-keeps`); (2) a walk from p leaves a best that no plan which extends p
--- and meets every rule betters (`walk-covers`): step 1 keeps p or a better one, step 2 closes only what `shut-covers` allows,
--- and in step 3 one of the entries leads to that plan (`branches`); (3) whatever holds of the first node and survives a hold
--- holds of the best, which meets every rule (`walk-sound`). Each is an induction over an arbitrary walker of the children.
--- The claims: `best-least`, `least-best`, `none-best`, `best-none`, `least-only`. Assumes nothing.
+-- The argument: (1) a best so far never gets worse: what step 1 keeps, a walk keeps (`walk-keeps`); (2) a walk from p leaves a best that
+-- no plan which extends p and meets every rule betters (`walk-covers`): step 1 keeps p or a better one, step 2 closes only what
+-- `shut-covers` allows, and in step 3 one of the entries leads to that plan (`branches`); (3) whatever holds of the first node and
+-- survives a hold holds of the best, which meets every rule (`walk-sound`). Each is an induction over an arbitrary walker of the
+-- children. The claims: `best-least`, `least-best`, `none-best`, `best-none`, `least-only`. Assumes nothing.
 use mathlib.Core.Path.{_≡_, refl, subst}
 use mathlib.Core.Logic.{_⊎_, inl, inr}
 use mathlib.Core.Bool.{Bool, true, false, cond}
 use mathlib.Core.List.{List, [], _∷_}
 use Prim.Native.Nat.{ℕ, zero, suc, _+_, _-_, _≤_}
 use native.Mathlib.Omega.{arith}
-use lib.ListN.{length, replicate}
+use lib.ListN.{length}
 use Rattle.hall.specs.Hall.{Entry, Rule, Hall, Plan, PlanOf, isFree, hold, meetsAll, firstUnmet}
 use Rattle.hall.specs.Order.{heldOf, rank, better, MeetsSheet, LeastPlan, NoPlan}
 use Rattle.hall.specs.Walk.{Best, noneYet, soFar, Walker, keep, shut, still, after, entryBy, through, opening, nodeBy, node, walk, walkFrom, start, walkHall}
 use Rattle.lists.proofs.Cases.{test, fails}
 use Rattle.hall.proofs.Order.{not-after, one-way, neither-better}
-use Rattle.hall.proofs.Plans.{Extends, extends-none, extended, start-plan, hold-plan}
+use Rattle.hall.proofs.Plans.{Extends, extended, start-plan, start-extended, hold-plan}
 use Rattle.hall.proofs.Rules.{Branch, here, there}
 use Rattle.hall.proofs.Unmet.{branches}
 use Rattle.hall.proofs.Shut.{AtLeast, All, shut-covers}
 use Rattle.hall.proofs.Walks.{child-fuel, no-child}
 
 -- ── step 1 ──
-keep-covers : (cs : List ℕ) (p : Plan) (b : Best) (q : Plan) → Extends p q → better cs q (keep cs p b) ≡ false
+pub keep-covers : (cs : List ℕ) (p : Plan) (b : Best) (q : Plan) → Extends p q → better cs q (keep cs p b) ≡ false
 unfolding keep better
 keep-covers cs p noneYet q x = extended cs x
 keep-covers cs p (soFar b) q x = go (test (better cs p b))
@@ -33,7 +33,7 @@ keep-covers cs p (soFar b) q x = go (test (better cs p b))
     go (inl u) = rw u (extended cs x)
     go (inr u) = rw u (not-after (rank cs b) (rank cs p) (rank cs q) u (extended cs x))
 
-keep-keeps : (cs : List ℕ) (p : Plan) (b : Best) (q : Plan) → AtLeast cs b q → better cs q (keep cs p b) ≡ false
+pub keep-keeps : (cs : List ℕ) (p : Plan) (b : Best) (q : Plan) → AtLeast cs b q → better cs q (keep cs p b) ≡ false
 unfolding keep better
 keep-keeps cs p noneYet q h = absurd h
 keep-keeps cs p (soFar b) q h = go (test (better cs p b))
@@ -51,61 +51,68 @@ keep-all P cs p (soFar b) h k = go (better cs p b)
     go true = h
     go false = k
 
-module _ (h : Hall) where
-  -- ── the best so far never gets worse ──
-  abbrev Keeps : Walker → Type 0
-  Keeps c = (p : Plan) (b : Best) (q : Plan) → AtLeast (h .costs) b q → AtLeast (h .costs) (c p b .best) q
+-- a walker that leaves what is known of the best so far
+abbrev pub Keeps : (Best → Type 0) → Walker → Type 0
+Keeps I c = (p : Plan) (b : Best) → I b → I (c p b .best)
 
-  through-keeps : (c : Walker) → Keeps c → (p : Plan) (es : Rule) (b : Best) (q : Plan) → AtLeast (h .costs) b q → AtLeast (h .costs) (through c p es b .best) q
+-- ── what step 1 keeps, a walk keeps ──
+module _ (I : Best → Type 0) where
+  pub through-keeps : (c : Walker) → Keeps I c → (p : Plan) (es : Rule) (b : Best) → I b → I (through c p es b .best)
   unfolding through entryBy after still
-  through-keeps c k p [] b q a = a
-  through-keeps c k p (e ∷ es) b q a = go (isFree p e) (through-keeps c k p es)
+  through-keeps c k p [] b a = a
+  through-keeps c k p (e ∷ es) b a = go (isFree p e) (through-keeps c k p es)
     where
-      go : (t : Bool) → ((b : Best) (q : Plan) → AtLeast (h .costs) b q → AtLeast (h .costs) (through c p es b .best) q) → AtLeast (h .costs) (entryBy t c p e (through c p es) b .best) q
-      go true ih = ih _ q (k (hold p e) b q a)
-      go false ih = ih b q a
+      go : (t : Bool) → ((b : Best) → I b → I (through c p es b .best)) → I (entryBy t c p e (through c p es) b .best)
+      go true ih = ih _ (k (hold p e) b a)
+      go false ih = ih b a
 
-  node-keeps : (c : Walker) → Keeps c → Keeps (node c h)
-  unfolding node nodeBy opening still
-  node-keeps c k p b q a = go (meetsAll p (h .rules)) (shut h p b)
-    where
-      go : (m s : Bool) → AtLeast (h .costs) (nodeBy m s c h p b .best) q
-      go true s = keep-keeps (h .costs) p b q a
-      go false true = a
-      go false false = through-keeps c k p (firstUnmet p (h .rules)) b q a
+  module _ (h : Hall) (on-keep : (p : Plan) (b : Best) → I b → I (soFar (keep (h .costs) p b))) where
+    node-keeps : (c : Walker) → Keeps I c → Keeps I (node c h)
+    unfolding node nodeBy opening still
+    node-keeps c k p b a = go (meetsAll p (h .rules)) (shut h p b)
+      where
+        go : (m s : Bool) → I (nodeBy m s c h p b .best)
+        go true s = on-keep p b a
+        go false true = a
+        go false false = through-keeps c k p (firstUnmet p (h .rules)) b a
 
-  walk-keeps : (n : ℕ) → Keeps (walk h n)
-  unfolding walk still
-  walk-keeps zero = node-keeps _ (λ p b q a. a)
-  walk-keeps (suc n) = node-keeps _ (walk-keeps n)
+    pub walk-keeps : (n : ℕ) → Keeps I (walk h n)
+    unfolding walk still
+    walk-keeps zero = node-keeps _ (λ p b a. a)
+    walk-keeps (suc n) = node-keeps _ (walk-keeps n)
 
+module _ (h : Hall) where
   -- ── no plan below a node betters what its walk leaves ──
-  through-covers : (c : Walker) → Keeps c → (p : Plan) (es : Rule) (b : Best) (q : Plan)
-      → ((e : Entry) (b : Best) → isFree p e ≡ true → Extends (hold p e) q → AtLeast (h .costs) (c (hold p e) b .best) q)
-      → Branch p q es → AtLeast (h .costs) (through c p es b .best) q
-  unfolding through entryBy after
-  through-covers c k p (e ∷ es) b q ih (here f x) = rw f (through-keeps c k p es _ q (ih e b f x))
-  through-covers c k p (e ∷ es) b q ih (there n i) = go (isFree p e) (λ b. through-covers c k p es b q ih i)
-    where
-      go : (t : Bool) → ((b : Best) → AtLeast (h .costs) (through c p es b .best) q) → AtLeast (h .costs) (entryBy t c p e (through c p es) b .best) q
-      go true rest = rest _
-      go false rest = rest b
+  module _ (q : Plan) where
+    abbrev Covered : Best → Type 0
+    Covered b = AtLeast (h .costs) b q
 
-  node-covers : (c : Walker) → Keeps c → (p : Plan) (b : Best) (q : Plan)
-      → ((e : Entry) (b : Best) → isFree p e ≡ true → Extends (hold p e) q → AtLeast (h .costs) (c (hold p e) b .best) q)
-      → Extends p q → meetsAll q (h .rules) ≡ true → AtLeast (h .costs) (node c h p b .best) q
-  unfolding node nodeBy opening still
-  node-covers c k p b q ih x m = go (meetsAll p (h .rules)) (shut h p b) refl refl
-    where
-      go : (s t : Bool) → meetsAll p (h .rules) ≡ s → shut h p b ≡ t → AtLeast (h .costs) (nodeBy s t c h p b .best) q
-      go true t u v = keep-covers (h .costs) p b q x
-      go false true u v = shut-covers h p b q v u x m
-      go false false u v = through-covers c k p (firstUnmet p (h .rules)) b q ih (branches (h .rules) x u m)
+    through-covers : (c : Walker) → Keeps Covered c → (p : Plan) (es : Rule) (b : Best)
+        → ((e : Entry) (b : Best) → isFree p e ≡ true → Extends (hold p e) q → Covered (c (hold p e) b .best))
+        → Branch p q es → Covered (through c p es b .best)
+    unfolding through entryBy after
+    through-covers c k p (e ∷ es) b ih (here f x) = rw f (through-keeps Covered c k p es _ (ih e b f x))
+    through-covers c k p (e ∷ es) b ih (there n i) = go (isFree p e) (λ b. through-covers c k p es b ih i)
+      where
+        go : (t : Bool) → ((b : Best) → Covered (through c p es b .best)) → Covered (entryBy t c p e (through c p es) b .best)
+        go true rest = rest _
+        go false rest = rest b
 
-  walk-covers : (n : ℕ) (p : Plan) (b : Best) (q : Plan) → length p ≤ n + heldOf p → Extends p q → meetsAll q (h .rules) ≡ true → AtLeast (h .costs) (walk h n p b .best) q
-  unfolding walk still
-  walk-covers zero p b q l x m = node-covers _ (λ p b q a. a) p b q (λ e b f y. no-child p e l f) x m
-  walk-covers (suc n) p b q l x m = node-covers _ (walk-keeps n) p b q (λ e b f y. walk-covers n (hold p e) b q (child-fuel n p e l f) y m) x m
+    node-covers : (c : Walker) → Keeps Covered c → (p : Plan) (b : Best)
+        → ((e : Entry) (b : Best) → isFree p e ≡ true → Extends (hold p e) q → Covered (c (hold p e) b .best))
+        → Extends p q → meetsAll q (h .rules) ≡ true → Covered (node c h p b .best)
+    unfolding node nodeBy opening still
+    node-covers c k p b ih x m = go (meetsAll p (h .rules)) (shut h p b) refl refl
+      where
+        go : (s t : Bool) → meetsAll p (h .rules) ≡ s → shut h p b ≡ t → Covered (nodeBy s t c h p b .best)
+        go true t u v = keep-covers (h .costs) p b q x
+        go false true u v = shut-covers h p b q v u x m
+        go false false u v = through-covers c k p (firstUnmet p (h .rules)) b ih (branches (h .rules) x u m)
+
+    walk-covers : (n : ℕ) (p : Plan) (b : Best) → length p ≤ n + heldOf p → Extends p q → meetsAll q (h .rules) ≡ true → Covered (walk h n p b .best)
+    unfolding walk still
+    walk-covers zero p b l x m = node-covers _ (λ p b a. a) p b (λ e b f y. no-child p e l f) x m
+    walk-covers (suc n) p b l x m = node-covers _ (walk-keeps Covered h (λ p b. keep-keeps (h .costs) p b q) n) p b (λ e b f y. walk-covers n (hold p e) b (child-fuel n p e l f) y m) x m
 
   -- ── what holds of the first node and survives a hold holds of the best, which meets every rule ──
   module _ (P : Plan → Type 0) (on-hold : (p : Plan) (e : Entry) → isFree p e ≡ true → P p → P (hold p e)) where
@@ -140,11 +147,8 @@ module _ (h : Hall) where
 
   -- ── the claims ──
   covers : (q : Plan) → MeetsSheet h q → AtLeast (h .costs) (walkHall h .best) q
-  unfolding walkHall walkFrom start
-  covers q m =
-      walk-covers (length (start h) - heldOf (start h)) (start h) noneYet q (omega arith)
-      (subst (λ (n : ℕ). Extends (replicate n 0) q) (m .plan .size) (extends-none q))
-      (m .meets)
+  unfolding walkHall walkFrom
+  covers q m = walk-covers q (length (start h) - heldOf (start h)) (start h) noneYet (omega arith) (start-extended h q (m .plan)) (m .meets)
 
   sound : All (λ r. PlanOf h r × (meetsAll r (h .rules) ≡ true)) (walkHall h .best)
   unfolding walkHall walkFrom

@@ -1,9 +1,9 @@
--- The rules that every plan meets can be left out: the walk of a hall without them opens the same nodes and has the same best.
+-- The rules that every plan meets can be left out: the walk of a hall without them opens the same nodes and has the same best and ties.
 --
 -- The argument: they change neither whether a plan meets every rule nor the first rule that it does not meet (`met-without`,
 -- `first-without`), nor what shuts a node (`shut-without` of Shut), and nothing else of the rules is asked at a node
--- (`node-without`). The claims: `met-without`, `walk-without`, and under a budget `within-without`. No rule that is left names both
--- positions of a device (`left-one-way`), and what is left is no more than what was there (`left-fewer`, `left-shorter`,
+-- (`node-without`). The claims: `met-without`, `walk-without`, and under a budget `within-without` and `list-without`. No rule that is
+-- left names both positions of a device (`left-one-way`), and what is left is no more than what was there (`left-fewer`, `left-shorter`,
 -- `without-in-range`). Assumes nothing.
 use mathlib.Core.Path.{_≡_, refl, ap, _∙_}
 use mathlib.Core.Logic.{_⊎_, inl, inr}
@@ -15,11 +15,13 @@ use lib.ListN.{length, length-append}
 use lib.Dec.{ltb}
 use Rattle.hall.specs.Hall.{Rule, Hall, Plan, namesBoth, meetsAll, firstUnmet, OneWay, leaveOut, without}
 use Rattle.hall.specs.Order.{heldOf}
-use Rattle.hall.specs.Walk.{Best, noneYet, soFar, Walker, shut, through, opening, nodeBy, node, walk, walkFrom, start, walkHall}
+use Rattle.hall.specs.Walk.{Best, noneYet, soFar, Walked, Walker, shut, through, opening, nodeBy, node, walk, walkFrom, start, walkHall}
 use Rattle.lists.specs.Lists.{Each}
 use Rattle.hall.specs.Ranges.{RuleInRange, HallInRange}
 use Rattle.hall.specs.Bound.{entries}
 use Rattle.hall.specs.Answer.{spentBy, within}
+use Rattle.hall.specs.Ties.{tying, inOrder, equalTo}
+use Rattle.hall.specs.Listing.{listSpentBy, listWithin}
 use Rattle.lists.proofs.Cases.{test}
 use Rattle.hall.proofs.Rules.{both-met}
 use Rattle.hall.proofs.Shut.{shut-without}
@@ -88,7 +90,7 @@ without-in-range h g =
 module _ (h : Hall) where
   node-without : (c : Walker) (p : Plan) (b : Best) → node c (without h) p b ≡ node c h p b
   unfolding node nodeBy
-  node-without c p b = ap opening (rw (met-without p (h .rules), shut-without h p b) (go (meetsAll p (h .rules)) (shut h p b)))
+  node-without c p b = ap (opening p) (rw (met-without p (h .rules), shut-without h p b) (go (meetsAll p (h .rules)) (shut h p b)))
     where
       go : (s t : Bool) → nodeBy s t c (without h) p b ≡ nodeBy s t c h p b
       go true t = refl
@@ -104,11 +106,33 @@ module _ (h : Hall) where
   unfolding walkHall walkFrom start
   walk-without = walks-without (length (start h) - heldOf (start h)) (start h) noneYet
 
+  -- the end of the walk, with any best in the place of its own
+  abbrev ended : Best → Walked
+  ended b = record { opened = walkHall h .opened; best = b; plans = walkHall h .plans }
+
   -- and so the answer under a budget
   pub within-without : (budget : ℕ) → within (without h) budget (walkHall (without h)) ≡ within h budget (walkHall h)
   within-without budget = ap (within (without h) budget) walk-without ∙ go (ltb budget (walkHall h .opened)) (walkHall h .best)
     where
-      go : (t : Bool) (b : Best) → spentBy t (without h) budget (record { opened = walkHall h .opened; best = b }) ≡ spentBy t h budget (record { opened = walkHall h .opened; best = b })
+      go : (t : Bool) (b : Best) → spentBy t (without h) budget (ended b) ≡ spentBy t h budget (ended b)
       go true b = refl
       go false noneYet = refl
       go false (soFar p) = refl
+
+  -- so are the ties of a plan, and the list of them under a budget
+  tying-without : (p : Plan) (qs : List Plan) → tying (without h) p qs ≡ tying h p qs
+  unfolding tying
+  tying-without p [] = refl
+  tying-without p (q ∷ qs) = rw (met-without q (h .rules), tying-without p qs) refl
+
+  pub equal-without : (p : Plan) → equalTo (without h) p ≡ equalTo h p
+  unfolding equalTo
+  equal-without p = ap (λ (w : Walked). inOrder (tying (without h) p (w .plans))) walk-without ∙ ap inOrder (tying-without p (walkHall h .plans))
+
+  pub list-without : (budget room : ℕ) → listWithin (without h) budget room (walkHall (without h)) ≡ listWithin h budget room (walkHall h)
+  list-without budget room = ap (listWithin (without h) budget room) walk-without ∙ go (ltb budget (walkHall h .opened)) (walkHall h .best)
+    where
+      go : (t : Bool) (b : Best) → listSpentBy t (without h) budget room (ended b) ≡ listSpentBy t h budget room (ended b)
+      go true b = refl
+      go false noneYet = refl
+      go false (soFar p) = rw (equal-without p) refl

@@ -1,6 +1,7 @@
 -- The theorems, in the order of the argument. AnswerTables stands apart: it computes the tables of known rows.
 pub mod AnswerTables
 pub mod Order
+pub mod Lower
 pub mod Plans
 pub mod Rules
 pub mod Satisfied
@@ -9,6 +10,10 @@ pub mod Shut
 pub mod Walks
 pub mod LeftOut
 pub mod Least
+pub mod Opened
+pub mod Ordered
+pub mod EveryTie
+pub mod Keeping
 pub mod Bound
 pub mod Apart
 pub mod Equality
@@ -24,4 +29,7 @@ pub mod Budget
 pub mod Refusals
 pub mod Answers
 pub mod Exactly
+pub mod Listed
+pub mod ListedWhere
+pub mod WithSearch
 pub mod Largest

@@ -46,7 +46,7 @@ unfolding less
 irreflexive [] = refl
 irreflexive (x ∷ a) = less-level x x a a refl ∙ irreflexive a
 
-split : (a b c : List ℕ) → less a c ≡ true → (less a b ≡ true) ⊎ (less b c ≡ true)
+pub split : (a b c : List ℕ) → less a c ≡ true → (less a b ≡ true) ⊎ (less b c ≡ true)
 unfolding less
 split a b [] h = absurd (false≢true h)
 split [] [] (z ∷ c) h = inr refl
@@ -66,7 +66,7 @@ split (x ∷ a) (y ∷ b) (z ∷ c) h = go (tri x y) (first h) (split a b c)
         on (inr u) = inr (less-level y z b c (omega arith) ∙ u)
 
 -- neither before the other: the same list
-total : (a b : List ℕ) → less a b ≡ false → less b a ≡ false → a ≡ b
+pub total : (a b : List ℕ) → less a b ≡ false → less b a ≡ false → a ≡ b
 unfolding less
 total [] [] h k = refl
 total [] (y ∷ b) h k = absurd (true≢false h)
@@ -97,7 +97,7 @@ one-way (x ∷ a) (y ∷ b) h k = go (first h) (first k) (one-way a b)
     go (tail u r) (head v) ih = omega arith
     go (tail u r) (tail v s) ih = ih r s
 
-transitive : (a b c : List ℕ) → less a b ≡ true → less b c ≡ true → less a c ≡ true
+pub transitive : (a b c : List ℕ) → less a b ≡ true → less b c ≡ true → less a c ≡ true
 transitive a b c h k = go (split a c b h)
   where
     go : (less a c ≡ true) ⊎ (less c b ≡ true) → less a c ≡ true

@@ -1,11 +1,12 @@
 -- A plan that extends another: it holds what that one holds, and maybe more.
 --
 -- In order: `Extends`; what extends costs no less and holds more unless it is the same (`cost-mono`, `held-mono`, `held-more`),
--- so it is not better (`extended`); every plan extends the one that holds nothing (`extends-none`); holding a free device as the
--- other plan holds it (`extends-hold`, `held-or-free`); the laws of `hold` on a free device (`hold-held`,
--- `hold-holds`, `hold-extends`, `hold-length`, `hold-apart`); plans of a hall (`start-plan`, `hold-plan`). Assumes nothing.
-use mathlib.Core.Path.{_≡_, refl, _∙_}
-use mathlib.Core.Logic.{_⊎_, inl, inr, _≢_}
+-- so the plan is lower (`dearer`) and what extends it is not better (`extended`); every plan extends the one that holds nothing
+-- (`extends-none`); holding a free device as the other plan holds it (`extends-hold`, `held-or-free`); the laws of `hold` on a free device
+-- (`hold-held`, `hold-holds`, `hold-extends`, `hold-length`, `hold-apart`); plans of a hall (`start-plan`, `start-extended`, `hold-plan`).
+-- Assumes nothing.
+use mathlib.Core.Path.{_≡_, refl, _∙_, subst}
+use mathlib.Core.Logic.{_⊎_, inl, inr, ⊎-elim, ⊎-map, _≢_}
 use mathlib.Core.Bool.{true, false}
 use mathlib.Core.List.{List, [], _∷_}
 use Prim.Native.Nat.{ℕ, zero, suc, _≤_, _<_, zero-le}
@@ -14,10 +15,11 @@ use lib.ListN.{getD, set, length, replicate, length-replicate, length-set}
 use lib.Seq.{getD-set-other}
 use borrow.Author.Tests.{eqb-true, eq-eqb}
 use Rattle.hall.specs.Hall.{Entry, at1, at0, device, mark, Hall, Plan, PlanOf, holds, isFree, hold}
-use Rattle.hall.specs.Order.{ifHeld, costOf, heldOf, less, rank, better}
+use Rattle.hall.specs.Order.{ifHeld, costOf, heldOf, better}
 use Rattle.hall.specs.Walk.{start}
-use Rattle.lists.proofs.Cases.{Tri, below, level, above, tri}
-use Rattle.hall.proofs.Order.{less-level, less-above, irreflexive}
+use Rattle.hall.specs.Ties.{lower}
+use Rattle.hall.proofs.Order.{better-irreflexive}
+use Rattle.hall.proofs.Lower.{fewer-lower, lower-not-better}
 
 pub data Extends : Plan → Plan → Type 0 where
   end : Extends [] []
@@ -52,30 +54,19 @@ held-more (same {x} {p} {q} e) = go (held-more e)
     go (inl h) = inl cc
     go (inr h) = inr (omega arith)
 
--- a plan that costs no less and holds more is not better, and neither is one that extends
-pub dearer : (cs : List ℕ) (p q : Plan) → costOf cs p ≤ costOf cs q → heldOf p < heldOf q → better cs q p ≡ false
-unfolding better rank
-dearer cs p q h k = go (tri (costOf cs q) (costOf cs p))
-  where
-    go : Tri (costOf cs q) (costOf cs p) → less (rank cs q) (rank cs p) ≡ false
-    go (below u) = absurd (omega arith)
-    go (level u) = less-level _ _ _ _ u ∙ less-above _ _ _ _ k
-    go (above u) = less-above _ _ _ _ u
+-- a plan is lower than each other one that extends it; so none of them is better
+pub dearer : (cs : List ℕ) {p q : Plan} → Extends p q → (p ≡ q) ⊎ (lower cs p q ≡ true)
+dearer cs {p} {q} e = ⊎-map (λ h. h) (fewer-lower cs p q (cost-mono cs e)) (held-more e)
 
 pub extended : (cs : List ℕ) {p q : Plan} → Extends p q → better cs q p ≡ false
-unfolding better
-extended cs {p} {q} e = go (held-more e)
-  where
-    go : (p ≡ q) ⊎ (heldOf p < heldOf q) → better cs q p ≡ false
-    go (inl h) = rw h (irreflexive (rank cs q))
-    go (inr h) = dearer cs p q (cost-mono cs e) h
+extended cs {p} {q} e = ⊎-elim (λ h. rw h (better-irreflexive cs q)) (lower-not-better cs p q) (dearer cs e)
 
 -- every plan extends the one that holds nothing; it stays extended where a free device is held as the other plan holds it
 pub extends-refl : (p : Plan) → Extends p p
 extends-refl [] = end
 extends-refl (x ∷ p) = same (extends-refl p)
 
-pub extends-none : (q : Plan) → Extends (replicate (length q) 0) q
+extends-none : (q : Plan) → Extends (replicate (length q) 0) q
 extends-none [] = end
 extends-none (y ∷ q) = free (extends-none q)
 
@@ -157,6 +148,10 @@ start-marks (suc n) (suc v) = start-marks n v
 pub start-plan : (h : Hall) → PlanOf h (start h)
 unfolding start
 start-plan h = record { size = length-replicate (length (h .costs)) 0; marks = start-marks (length (h .costs)) }
+
+pub start-extended : (h : Hall) (q : Plan) → PlanOf h q → Extends (start h) q
+unfolding start
+start-extended h q k = subst (λ (n : ℕ). Extends (replicate n 0) q) (k .size) (extends-none q)
 
 pub start-held : (n : ℕ) → heldOf (replicate n 0) ≡ 0
 unfolding heldOf ifHeld

@@ -52,7 +52,7 @@ module _ (h : Hall) (o : OneWay (h .rules)) where
   -- ── the walk ──
   same-node : (c : Walker) (p : Plan) (b : Best) → heldNode c h p b ≡ node c h p b
   unfolding heldNode heldNodeBy node nodeBy
-  same-node c p b = ap opening (rw (same-all p (h .rules) o) (go (meetsAll p (h .rules)) (shut h p b)))
+  same-node c p b = ap (opening p) (rw (same-all p (h .rules) o) (go (meetsAll p (h .rules)) (shut h p b)))
     where
       go : (s t : Bool) → heldNodeBy s t c h p b ≡ nodeBy s t c h p b
       go true t = refl

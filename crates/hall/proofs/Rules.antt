@@ -23,7 +23,7 @@ use lib.ListN.{getD}
 use lib.Dec.{eqb}
 use borrow.Author.Tests.{eqb-true, eq-eqb, not-true}
 use Rattle.hall.specs.Hall.{Entry, at1, at0, device, mark, Rule, Plan, holds, isFree, hold, holdsOne, opposite, among, namesBoth, meetsRule}
-use Rattle.lists.specs.Lists.{Each}
+use Rattle.lists.specs.Lists.{Each, In, first, later}
 use Rattle.hall.specs.Bound.{absent, once}
 use Rattle.lists.proofs.Cases.{test, both, or-false, or-right, and-both}
 use Rattle.lists.proofs.Each.{each-map}
@@ -33,10 +33,6 @@ use Rattle.hall.proofs.Plans.{Extends, end, free, same, extends-hold, h
 pub data Branch (p q : Plan) : Rule → Type 0 where
   here : {e : Entry} {es : Rule} → isFree p e ≡ true → Extends (hold p e) q → Branch p q (e ∷ es)
   there : {e : Entry} {es : Rule} → holds q e ≡ false → Branch p q es → Branch p q (e ∷ es)
-
-pub data In (e : Entry) : Rule → Type 0 where
-  first : {es : Rule} → In e (e ∷ es)
-  later : {d : Entry} {es : Rule} → In e es → In e (d ∷ es)
 
 -- what each entry of a rule has, an entry that stands in it has
 pub each-in : (P : Entry → Type 0) {e : Entry} {r : Rule} → In e r → Each P r → P e

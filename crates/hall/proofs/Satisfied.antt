@@ -16,10 +16,10 @@ use borrow.Author.Tests.{eqb-true}
 use Rattle.hall.specs.Hall.{Entry, at1, at0, device, opposite, Rule, Hall, Plan, holds, among, namesBoth, meetsRule, meetsAll}
 use Rattle.hall.specs.Order.{MeetsSheet, LeastOf, NoneOf}
 use Rattle.hall.specs.Settings.{Setting, isTrue, ruleTrue, allTrue, Agrees, Satisfies}
-use Rattle.lists.specs.Lists.{Each}
+use Rattle.lists.specs.Lists.{Each, In, first, later}
 use Rattle.hall.specs.Ranges.{RuleInRange}
 use Rattle.lists.proofs.Cases.{test, both, fails, or-right, and-both}
-use Rattle.hall.proofs.Rules.{In, first, later, each-in, in-among, among-in, both-named, named-both, held-meets, unheld-unmet, both-met}
+use Rattle.hall.proofs.Rules.{each-in, in-among, among-in, both-named, named-both, held-meets, unheld-unmet, both-met}
 
 -- a rule is true in every full setting of n devices that agrees with the plan
 abbrev pub AlwaysTrue : ℕ → Plan → Rule → Type 0

@@ -1,8 +1,9 @@
 -- The sheet of a hall within every range is accepted, and that hall is what is decoded.
 --
 -- In order: what stands on the sheet and is in its range is given, for each reader from a word to a hall (`GivesBack`,
--- `hall-gives`); the whole sheet (`accepted`). That nothing else is accepted is `decoded`, in Reasons. Assumes nothing.
-use mathlib.Core.Path.{_≡_, sym, _∙_, ap}
+-- `hall-gives`); the whole sheet (`accepted`), and its number of devices
+-- (`devices-on`). That nothing else is accepted is `decoded`, in Reasons. Assumes nothing.
+use mathlib.Core.Path.{_≡_, refl, sym, _∙_, ap}
 use mathlib.Core.List.{List, [], _∷_, _++_, append-assoc, append-nil}
 use mathlib.Core.Option.{Option, some}
 use Prim.Native.Nat.{ℕ, _+_, _-_, _≤_, _<_}
@@ -14,6 +15,7 @@ use Rattle.hall.specs.Hall.{at1, at0, device, Rule, Hall}
 use Rattle.lists.specs.Lists.{Each}
 use Rattle.hall.specs.Ranges.{RuleInRange, HallInRange, wordsOf, numberWords, entryWords, ruleWords, words, SheetOf}
 use Rattle.hall.specs.Reading.{Fault, badDeviceCount, badCost, badEntry, badRuleCount, badWidth, got, Reader, _>>=_, yield, word, upTo, asEntry, times, cost, entry, rule, allRules, hall, ended, hasRoom, decodeBy, decode}
+use Rattle.hall.specs.Due.{devicesOn}
 use Rattle.hall.proofs.Reading.{drop-word, past, reads-on}
 
 -- ── what stands on the sheet is given ──
@@ -77,3 +79,8 @@ accepted room ws h s =
     let r : _>>=_ hall ended ws 0 ≡ got h (0 + length (words h)) = reads-on hall ended ws 0 (hall-gives h (s .ranges) ws 0 [] e) ∙ rw (le-ltb (0 + length (words h)) (length ws) (omega arith)) in
     rw (le-ltb 16384 (length ws) (s .short))
     (reads-on (hall >>= ended) (hasRoom room) ws 0 r ∙ rw (le-ltb room (length (h .costs)) (s .fits)) (ap (λ (j : ℕ). got h j) (omega arith)))
+
+-- its first word is the number of its devices
+pub devices-on : {h : Hall} {ws : List ℤ} {room : ℕ} → SheetOf h ws room → devicesOn ws ≡ length (h .costs)
+unfolding words
+devices-on s = rw (s .sheet) refl

@@ -9,10 +9,11 @@ use mathlib.Core.List.{List, [], _∷_}
 use Prim.Native.Nat.{ℕ, suc, _≤_, _<_, zero-le, suc-le-suc}
 use native.Mathlib.Omega.{arith}
 use lib.ListN.{length}
+use Rattle.lists.specs.Lists.{In}
 use Rattle.hall.specs.Hall.{Entry, Rule, Plan, isFree, hold, meetsRule, meetsAll, firstUnmet}
 use Rattle.lists.proofs.Cases.{test, and-both}
 use Rattle.hall.proofs.Plans.{Extends, hold-extends}
-use Rattle.hall.proofs.Rules.{Branch, In, branch, meets-mono, hold-meets}
+use Rattle.hall.proofs.Rules.{Branch, branch, meets-mono, hold-meets}
 
 pub branches : {p q : Plan} (rs : List Rule) → Extends p q → meetsAll p rs ≡ false → meetsAll q rs ≡ true → Branch p q (firstUnmet p rs)
 unfolding meetsAll firstUnmet

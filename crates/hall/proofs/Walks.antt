@@ -33,7 +33,7 @@ module _ (c d : Walker) (p : Plan) (same : (e : Entry) (b : Best) → isFree p e
 
   pub node-same : (h : Hall) (b : Best) → node c h p b ≡ node d h p b
   unfolding node nodeBy
-  node-same h b = ap opening (go (meetsAll p (h .rules)) (shut h p b))
+  node-same h b = ap (opening p) (go (meetsAll p (h .rules)) (shut h p b))
     where
       go : (s t : Bool) → nodeBy s t c h p b ≡ nodeBy s t d h p b
       go true t = refl

@@ -1,7 +1,7 @@
 -- What each word of a sheet is due to be, from the words before it, and the reasons for a refusal. 01, "The hall sheet" and
 -- "The answer sheet of the search": "Each refusal is given only for its reason."; 02, request 1, for the kinds of refusal.
 --
--- In order: what can be due; what is due after a word; the ranges; the reason of each kind. Apart from the decoder (Reading):
+-- In order: what can be due; what is due after a word, and a sheet's number of devices; the ranges; the reason of each kind. Apart from the decoder (Reading):
 -- that the two agree is a theorem (proofs/Reasons). Definitions only.
 use mathlib.Core.Path.{_≡_}
 use mathlib.Core.Logic.{_≢_}
@@ -42,6 +42,11 @@ entriesDue n rule rules (suc left) = ruleEntry n rule rules left
 abbrev pub size : ℤ → ℕ
 size (pos n) = n
 size (negsuc n) = suc n
+
+-- n, the number of devices: a sheet's first word
+abbrev pub devicesOn : List ℤ → ℕ
+devicesOn [] = 0
+devicesOn (w ∷ ws) = size w
 
 -- what is due after a word
 abbrev pub next : Due → ℤ → Due

@@ -32,7 +32,7 @@ heldNodeBy false true child h p b = still b
 heldNodeBy false false child h p b = through child p (firstUnheld p (h .rules)) b
 
 unfoldable pub heldNode : Walker → Hall → Walker
-heldNode child h p b = opening (heldNodeBy (holdsEach p (h .rules)) (shut h p b) child h p b)
+heldNode child h p b = opening p (heldNodeBy (holdsEach p (h .rules)) (shut h p b) child h p b)
 
 unfoldable pub heldWalk : Hall → ℕ → Walker
 heldWalk h zero = heldNode (λ p b. still b) h

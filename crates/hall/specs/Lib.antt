@@ -3,11 +3,14 @@ pub mod Hall
 pub mod Order
 pub mod Settings
 pub mod Walk
+pub mod Ties
 pub mod Ranges
 pub mod Bound
 pub mod Reading
 pub mod Due
 pub mod Answer
 pub mod Demands
+pub mod Listing
 pub mod Table
+pub mod TiesTable
 pub mod Earlier

@@ -1,10 +1,10 @@
--- The walk without a budget: how many nodes it opens and which plan is the best at its end. 01, "The walk".
+-- The walk without a budget: how many nodes it opens, which plan is the best at its end, and which plans it opens. 01, "The walk".
 --
 -- In order: the best so far; steps 1, 2 and 3; a node; the walk from a plan; the walk of a hall. What the budget does to it is
 -- said in Answer. The walk of a child is a parameter of a node, so that what holds of a node holds whatever walks its children.
 -- Definitions only.
 use mathlib.Core.Bool.{Bool, true, false, cond}
-use mathlib.Core.List.{List, [], _∷_}
+use mathlib.Core.List.{List, [], _∷_, _++_}
 use Prim.Native.Nat.{ℕ, zero, suc, _+_, _-_}
 use lib.ListN.{length, replicate}
 use Rattle.hall.specs.Hall.{Entry, Rule, Hall, Plan, isFree, hold, meetsAll, firstUnmet}
@@ -15,10 +15,12 @@ pub data Best : Type 0 where
   noneYet : Best
   soFar : Plan → Best
 
--- a walk, or a part of one: the nodes opened, and the best so far at its end
+-- a walk, or a part of one: the number of nodes opened, the best so far at its end, and the plans opened, in their order (so many as
+-- nodes: `opened-plans` of proofs/Opened)
 pub record Walked : Type 0 where
   pub opened : ℕ
   pub best : Best
+  pub plans : List Plan
 
 -- walks a plan to its end, from the best so far
 abbrev pub Walker : Type 0
@@ -45,11 +47,11 @@ shut h p b = closes (h .costs) p b
 
 -- no node opened, and the best so far as it was
 unfoldable pub still : Best → Walked
-still b = record { opened = 0; best = b }
+still b = record { opened = 0; best = b; plans = [] }
 
 -- one part of a walk after another
 unfoldable pub after : Walked → Walked → Walked
-after v w = record { opened = v .opened + w .opened; best = w .best }
+after v w = record { opened = v .opened + w .opened; best = w .best; plans = v .plans ++ w .plans }
 
 -- step 3, one entry: "Each entry whose device is free opens a child .. walked to its end before the next entry. An entry whose
 -- device is held opens nothing." `rest` goes through the entries after this one
@@ -63,8 +65,8 @@ through child p [] b = still b
 through child p (e ∷ es) b = entryBy (isFree p e) child p e (through child p es) b
 
 -- "Opening a node adds 1 to the count"
-unfoldable pub opening : Walked → Walked
-opening w = record { opened = suc (w .opened); best = w .best }
+unfoldable pub opening : Plan → Walked → Walked
+opening p w = record { opened = suc (w .opened); best = w .best; plans = p ∷ w .plans }
 
 -- "At a node, in this order": the first flag says that the plan meets every rule, the second that the node is shut
 unfoldable pub nodeBy : Bool → Bool → Walker → Hall → Plan → Best → Walked
@@ -73,7 +75,7 @@ nodeBy false true child h p b = still b
 nodeBy false false child h p b = through child p (firstUnmet p (h .rules)) b
 
 unfoldable pub node : Walker → Hall → Walker
-node child h p b = opening (nodeBy (meetsAll p (h .rules)) (shut h p b) child h p b)
+node child h p b = opening p (nodeBy (meetsAll p (h .rules)) (shut h p b) child h p b)
 
 -- "A node opens its entries, and each entry opens a node in turn": the walk from a plan with at most so many free devices
 unfoldable pub walk : Hall → ℕ → Walker

@@ -11,8 +11,8 @@ use lib.ListN.{length, take}
 use lib.IntN.{ℤ}
 use Rattle.lists.specs.Bytes.{bytes}
 use Rattle.lists.proofs.InFront.{front-stands, rest-stays}
-use Rattle.sheet.specs.Contract.{Tells}
-use Rattle.sheet.proofs.ToldNumbers.{told-front, told-short}
+use Rattle.refusals.specs.Contract.{Tells}
+use Rattle.refusals.proofs.ToldNumbers.{told-front, told-short}
 use Rattle.typed.specs.Text as text
 use Rattle.typed.specs.Text.{readText}
 use Rattle.typed.specs.Answer.{Reads}

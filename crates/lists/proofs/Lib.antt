@@ -2,4 +2,5 @@
 pub mod Bytes
 pub mod Cases
 pub mod Each
+pub mod In
 pub mod InFront

@@ -17,9 +17,10 @@ use Rattle.hall.specs.Reading.{Read, bad, got, decode}
 use Rattle.hall.proofs.LeftOut.{left-shorter, without-in-range}
 use Rattle.hall.proofs.Reasons.{decoded}
 use Rattle.hall.proofs.Refusals.{code-large, refusal-injective}
+use Rattle.refusals.specs.Contract.{faultOf, numbersAt}
+use Rattle.refusals.specs.declared.Refusal.{Refusal}
 use Rattle.sheet.specs.Coded.{hallOf, Laid, entryCodes, startsFrom}
-use Rattle.sheet.specs.Contract.{faultOf, numbersAt, numbersOf, numbersRead, Holds}
-use Rattle.sheet.specs.declared.Refusal.{Refusal}
+use Rattle.sheet.specs.Contract.{numbersOf, numbersRead, Holds}
 use Rattle.sheet.specs.declared.Sheet.{Sheet}
 use Rattle.sheet.specs.declared.Sheet.the-variants as sheet
 use Rattle.sheet.proofs.Standing.{starts-length, few-entries}

@@ -18,9 +18,10 @@ use Rattle.hall.specs.Reading.{Read, bad, got, decode}
 use Rattle.hall.proofs.LeftOut.{left-fewer, left-shorter}
 use Rattle.hall.proofs.Reasons.{decoded}
 use Rattle.hall.proofs.Refusals.{code-large}
+use Rattle.refusals.specs.Contract.{faultOf, numbersAt}
+use Rattle.refusals.specs.declared.Refusal.{Refusal}
 use Rattle.sheet.specs.Coded.{rulesOf, Laid, entryCodes, startsFrom}
-use Rattle.sheet.specs.Contract.{faultOf, numbersAt, numbersOf, numbersRead, Holds, ArraysAfter, Decodes}
-use Rattle.sheet.specs.declared.Refusal.{Refusal}
+use Rattle.sheet.specs.Contract.{numbersOf, numbersRead, Holds, ArraysAfter, Decodes}
 use Rattle.sheet.specs.declared.Sheet.{Sheet}
 use Rattle.sheet.specs.declared.Sheet.the-variants as sheet
 use Rattle.sheet.proofs.Standing.{codes-length, starts-length, few-entries}

@@ -11,10 +11,10 @@ use Prim.Native.Nat.{ℕ, zero, suc, _+_, _-_, _*_, _/_, _%_, _≤_, _<_}
 use native.Mathlib.Omega.{arith}
 use lib.ListN.{length, length-set, getD, set}
 use lib.Seq.{getD-set-same, getD-set-other}
-use Rattle.lists.specs.Lists.{Each}
+use Rattle.lists.specs.Lists.{Each, In}
 use Rattle.lists.proofs.Cases.{Tri, below, level, above, tri, fails}
 use Rattle.hall.specs.Hall.{Entry, at1, at0, Rule, opposite, namesBoth}
-use Rattle.hall.proofs.Rules.{In, each-in, both-named, named-both}
+use Rattle.hall.proofs.Rules.{each-in, both-named, named-both}
 use Rattle.sheet.specs.Coded.{entryFrom, entryOf, entriesOf}
 use Rattle.needed.specs.Leaving.{Opposes, Stampable, Stamps}
 use Rattle.sheet.proofs.Codes.{same-code, each-entry, entry-in}

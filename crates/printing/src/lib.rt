@@ -1,13 +1,17 @@
 // Bytes, numbers and lines, put into a lent room from a place on. Whatever a program prints comes into its room here.
 //
 // Each function gives the place behind what it put. What has no place in the room is left out, and nothing else is written: so no caller
-// has to count ahead, and one that knows that all of its bytes fit knows what its room holds.
+// has to count ahead, and one that knows that all of its bytes fit knows what its room holds. held puts the devices of a plan.
 ghost use mathlib.Core.Path.{_≡_};
 ghost use mathlib.Core.List.{_++_};
 ghost use Rattle.lists.specs.Bytes.{bytes};
 ghost use Rattle.typed.specs.Printing.{digitsOf};
-ghost use Rattle.printing.specs.Lines.{spaced, lineEnd};
+ghost use Rattle.printing.specs.Lines.{spaced, lineEnd, holdLine};
 ghost use Rattle.printing.specs.Contract.{stored, Puts, PutsLine};
+
+mod held;
+
+use held::put_devices;
 
 // How many of so many bytes have place from a place on, in a room of so many.
 fn count_for(bytes: usize, at: usize, room: usize) -> usize
@@ -80,4 +84,13 @@ pub fn put_refused(numbers: &[u64], out: &mut [u8]) -> usize
     ensures { λ r. ⌜ PutsLine (bytes "refused") (now (numbers .entry)) 0 (now (out .entry)) r (now (out .exit)) ⌝ }
 {
     put_line(b"refused", numbers, 0, out)
+}
+
+// The line of the devices that a plan holds; a mark other than 1 and 2 holds nothing. The word alone where nothing is held.
+pub fn put_hold(plan: &[u8], at: usize, out: &mut [u8]) -> usize
+    ensures { λ r. ⌜ Puts (holdLine (now (plan .entry))) at (now (out .entry)) r (now (out .exit)) ⌝ }
+{
+    let first = put(b"hold", at, out);
+    let behind = put_devices(plan, first, out);
+    close_line(behind, out)
 }

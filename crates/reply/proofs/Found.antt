@@ -12,7 +12,7 @@ use lib.IntN.{ℤ}
 use Rattle.hall.specs.Order.{heldBy, heldFrom, heldEntries}
 use Rattle.hall.specs.Answer as hall
 use Rattle.hall.specs.Answer.{answer, numbers, roomAfter}
-use Rattle.sheet.proofs.Faults.{fault-kind}
+use Rattle.refusals.proofs.Faults.{fault-kind}
 use Rattle.search.specs.Contract.{numbersOf, Finds}
 use Rattle.search.proofs.Finds.{Matches, match}
 use Rattle.search.specs.declared.Answer.{Answer}

@@ -5,33 +5,34 @@ use mathlib.Core.List.{List, [], _∷_, _++_}
 use Prim.Native.Nat.{ℕ, _-_, _≤_}
 use native.Mathlib.Omega.{arith}
 use lib.ListN.{length, take, length-append}
+use lib.Seq.{take-all}
 use Rattle.lists.specs.Bytes.{bytes}
-use Rattle.sheet.specs.Contract.{numbersAt, Tells}
-use Rattle.sheet.specs.declared.Refusal.{Refusal}
-use Rattle.sheet.proofs.ToldNumbers.{told-front, told-short}
+use Rattle.refusals.specs.Contract.{numbersAt, Tells}
+use Rattle.refusals.specs.declared.Refusal.{Refusal}
+use Rattle.refusals.proofs.ToldNumbers.{told-front, told-short}
 use Rattle.typed.specs.Printing.{digitsOf}
 use Rattle.search.specs.declared.Answer.{Answer}
 use Rattle.search.specs.declared.Answer.the-variants.{Least, None, Spent, Refused}
-use Rattle.printing.specs.Lines.{line, refusedLine}
+use Rattle.printing.specs.Lines.{line, holdLine, refusedLine}
 use Rattle.printing.specs.Contract.{Puts, PutsLine, InRoom}
+use Rattle.printing.proofs.Lengths.{hold-short}
 use Rattle.printing.proofs.Putting.{puts-then}
 use Rattle.printing.proofs.InRoom.{put-in-room, in-room-as, line-in-room}
-use Rattle.reply.specs.Printed.{holdLine}
 use Rattle.reply.specs.Contract.{linesOf, Prints}
-use Rattle.reply.proofs.Lengths.{hold-short}
 
 module _ (answer : Answer) (plan before : List ℕ) (r : ℕ) (after : List ℕ) (size : length before ≡ 1024) where
   prints : (lines : List ℕ) → lines ≡ linesOf answer plan → InRoom 1024 lines before r after → Prints answer plan before r after
   prints lines e h = in-room-as 1024 lines before r after (linesOf answer plan) e h
 
   pub prints-least : (cost held opened next : ℕ) (out : List ℕ) → answer ≡ Least cost held opened
-      → PutsLine (bytes "least") (cost ∷ held ∷ opened ∷ []) 0 before next out → Puts (holdLine (take 200 plan)) next out r after
+      → PutsLine (bytes "least") (cost ∷ held ∷ opened ∷ []) 0 before next out → length plan ≡ 200 → Puts (holdLine plan) next out r after
       → Prints answer plan before r after
-  prints-least cost held opened next out e p q =
+  prints-least cost held opened next out e p marks q =
       let first = line (bytes "least") digitsOf (cost ∷ held ∷ opened ∷ []) in
-      let second = holdLine (take 200 plan) in
-      let fits : length (first ++ second) ≤ 1024 = omega (arith, length-append first second, p .short, hold-short plan) in
-      prints (first ++ second) (rw e) (put-in-room 1024 (first ++ second) before r after size fits (puts-then first second 0 before next out r after (p .puts) q))
+      let second = holdLine plan in
+      let fits : length (first ++ second) ≤ 1024 = omega (arith, length-append first second, p .short, hold-short plan (omega arith)) in
+      let both = puts-then first second 0 before next out r after (p .puts) q in
+      prints (first ++ second) (rw (e, take-all 200 plan (omega arith))) (put-in-room 1024 (first ++ second) before r after size fits both)
 
   pub prints-none : (opened : ℕ) → answer ≡ None opened → PutsLine (bytes "none") (opened ∷ []) 0 before r after → Prints answer plan before r after
   prints-none opened e p =

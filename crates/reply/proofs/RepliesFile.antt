@@ -11,8 +11,8 @@ use lib.IntN.{ℤ}
 use Rattle.lists.specs.Bytes.{bytes}
 use Rattle.lists.proofs.InFront.{front-within, front-taken}
 use Rattle.hall.specs.Ranges.{words}
-use Rattle.sheet.specs.Contract.{Tells}
-use Rattle.sheet.proofs.ToldNumbers.{told-front, told-short}
+use Rattle.refusals.specs.Contract.{Tells}
+use Rattle.refusals.proofs.ToldNumbers.{told-front, told-short}
 use Rattle.dimacs.specs.File.{flawNumbers, Parsed, refused, file, readFile}
 use Rattle.dimacs.specs.Contract.{filedOf, roomAfter, Files}
 use Rattle.dimacs.specs.declared.Flaw.{Flaw}

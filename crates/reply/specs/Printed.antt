@@ -1,24 +1,18 @@
 -- What `leastplan` and `cnfplan` print. 01, "What leastplan prints"; 02, requests 1 to 3.
 --
--- In order: the line of the held devices; an answer; the words of a sheet; a text that was read; the whole, from the text that was typed;
--- a file that was read; the whole, from the file. The lines are those of Rattle.printing.specs.Lines. Definitions only.
+-- In order: an answer; the words of a sheet; a text that was read; the whole, from the text that was typed; a file that was read; the
+-- whole, from the file. The lines are those of Rattle.printing.specs.Lines. Definitions only.
 use mathlib.Core.List.{List, [], _∷_, _++_}
 use Prim.Native.Nat.{ℕ}
 use lib.IntN.{ℤ}
 use Rattle.lists.specs.Bytes.{bytes}
-use Rattle.hall.specs.Order.{heldEntries}
-use Rattle.hall.specs.Ranges.{wordsOf, entryWords, words}
+use Rattle.hall.specs.Ranges.{words}
 use Rattle.hall.specs.Reading as sheet
 use Rattle.hall.specs.Answer.{Answer, least, none, spent, refused, answer}
 use Rattle.typed.specs.Text as text
-use Rattle.typed.specs.Printing.{digitsOf, printedWord}
+use Rattle.typed.specs.Printing.{digitsOf}
 use Rattle.dimacs.specs.File as cnf
-use Rattle.printing.specs.Lines.{line, refusedLine}
-
--- "a line `hold` followed by a blank and an entry for each held device in rising order, without a plus (the word alone where
--- nothing is held)": the entries as a sheet has them, a minus in front of one that is held at 0
-abbrev pub holdLine : List ℕ → List ℕ
-holdLine plan = line (bytes "hold") printedWord (wordsOf entryWords (heldEntries plan))
+use Rattle.printing.specs.Lines.{line, holdLine, refusedLine}
 
 -- "`least COST HELD OPENED`, then a line `hold`"; "`none OPENED`, or `spent 1000000`"
 abbrev pub printedAnswer : Answer → List ℕ

@@ -1,13 +1,9 @@
 // What `leastplan` and `cnfplan` print, as bytes in a lent room; and the whole way to them, from a typed text and from a DIMACS file.
 // 01, "What leastplan prints"; 02, requests 1 to 3.
 //
-// lines makes the line of the held devices; every other line is a word and its numbers, which `printing` puts.
+// `printing` puts the lines: that of the held devices, and every other, which is a word and its numbers.
 ghost use Rattle.reply.specs.Contract.{Prints, Searched, Replies, RepliesFile};
-
-mod lines;
-
 use dimacs::Filed;
-use lines::put_hold;
 use search::Answer;
 use typed::Reading;
 
@@ -19,7 +15,7 @@ pub fn print_answer(answer: Answer, plan: &[u8; 200], out: &mut [u8; 1024]) -> u
         Answer::Least(cost, held, opened) => {
             let numbers = [cost, held as u64, opened as u64];
             let next = printing::put_line(b"least", &numbers, 0, out);
-            put_hold(plan, next, out)
+            printing::put_hold(plan, next, out)
         }
         Answer::None(opened) => {
             let numbers = [opened as u64];
@@ -31,7 +27,7 @@ pub fn print_answer(answer: Answer, plan: &[u8; 200], out: &mut [u8; 1024]) -> u
         }
         Answer::Refused(kind, place) => {
             let mut numbers = [0u64; 4];
-            let count = sheet::numbers_of(kind, place, &mut numbers);
+            let count = refusals::numbers_of(kind, place, &mut numbers);
             printing::put_refused(&numbers[0..count], out)
         }
     }

@@ -61,3 +61,24 @@ pub fn wcnf_room() -> [u8; 100000]
 {
     [0u8; 100000]
 }
+
+// 256 plans of any hall.
+pub fn ties_room() -> [u8; 51200]
+    ensures { λ r. ⌜ r ≡ replicate 51200 0 ⌝ }
+{
+    [0u8; 51200]
+}
+
+// The best plan of any hall, and 256 that equal it.
+pub fn kept_room() -> [u8; 51400]
+    ensures { λ r. ⌜ r ≡ replicate 51400 0 ⌝ }
+{
+    [0u8; 51400]
+}
+
+// The lines of any list: two of numbers, and those of 256 plans.
+pub fn list_room() -> [u8; 230000]
+    ensures { λ r. ⌜ r ≡ replicate 230000 0 ⌝ }
+{
+    [0u8; 230000]
+}

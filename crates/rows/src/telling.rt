@@ -1,7 +1,7 @@
 // How a row is run and its answer printed. Each plan room holds nines before it is lent.
 use libc::STDOUT_FILENO;
+use refusals::Refusal;
 use search::Answer;
-use sheet::Refusal;
 use typed::Reading;
 
 fn number(n: u64) {
@@ -26,7 +26,7 @@ fn tell_room(room: &[u8]) {
 // The numbers of a refusal: `refused CODE PLACE`, for a width `refused 19 PLACE RULE`.
 fn tell_refusal(kind: Refusal, place: usize) {
     let mut numbers = [0u64; 4];
-    let count = sheet::numbers_of(kind, place, &mut numbers);
+    let count = refusals::numbers_of(kind, place, &mut numbers);
     io::write_all(STDOUT_FILENO, b"refused");
     number(numbers[0]);
     number(numbers[1]);

@@ -1,28 +1,26 @@
 -- The contract of `least_plan`, from its numbers and its room alone.
 --
--- In order: an answer of the code and one of the definitions with the same numbers are the same case (`match`); the number of devices is
--- the sheet's first word (`devices-on`); with the plan that stands in the room it is that answer, which meets the demands (`finds`).
--- Assumes nothing.
-use mathlib.Core.Path.{_≡_, refl, sym, _∙_, ap, subst}
+-- In order: an answer of the code and one of the definitions with the same numbers are the same case (`match`); with the plan that
+-- stands in the room it is that answer, which meets the demands (`finds`). Assumes nothing.
+use mathlib.Core.Path.{_≡_, sym, _∙_, ap, subst}
 use mathlib.Core.List.{List}
 use Prim.Native.Nat.{ℕ}
 use native.Mathlib.Omega.{arith}
 use lib.ListN.{length, take}
 use lib.IntN.{ℤ}
 use Rattle.lists.proofs.InFront.{front-stands}
-use Rattle.hall.specs.Hall.{Hall}
-use Rattle.hall.specs.Ranges.{words, SheetOf}
+use Rattle.hall.specs.Due.{devicesOn}
 use Rattle.hall.specs.Answer as hall
 use Rattle.hall.specs.Answer.{answer, numbers, roomAfter}
 use Rattle.hall.specs.Demands.{Answered}
 use Rattle.hall.proofs.Refusals.{code-large, refusal-injective}
+use Rattle.hall.proofs.Sheets.{devices-on}
 use Rattle.hall.proofs.Answers.{answered}
-use Rattle.sheet.specs.Check.{kindOf}
-use Rattle.sheet.specs.Contract.{faultOf}
-use Rattle.sheet.proofs.Faults.{fault-kind, kind-fault}
+use Rattle.refusals.specs.Contract.{faultOf, kindOf}
+use Rattle.refusals.proofs.Faults.{fault-kind, kind-fault}
 use Rattle.search.specs.declared.Answer.{Answer}
 use Rattle.search.specs.declared.Answer.the-variants.{Least, None, Spent, Refused}
-use Rattle.search.specs.Contract.{numbersOf, answerOf, devicesOn, Finds}
+use Rattle.search.specs.Contract.{numbersOf, answerOf, Finds}
 
 -- ── the same case ──
 abbrev pub Matches : Answer → hall.Answer → Type 0
@@ -54,10 +52,6 @@ match (Refused k i) (hall.refused f j) e =
     rw (y, z)
 
 -- ── the plan in the room ──
-pub devices-on : {h : Hall} {ws : List ℤ} {room : ℕ} → SheetOf h ws room → devicesOn ws ≡ length (h .costs)
-unfolding words
-devices-on s = rw (s .sheet) refl
-
 module _ (ws : List ℤ) (budget : ℕ) (before : List ℕ) (r : Answer) (after : List ℕ) where
   stands : (a : hall.Answer) → Matches r a → after ≡ roomAfter a before → Answered ws budget (length before) a → answerOf r (take (devicesOn ws) after) ≡ a
   stands (hall.least c k o p) m room v =

@@ -1,13 +1,4 @@
 -- The laws behind the proofs, in the order of the argument.
-pub mod Codes
-pub mod Costs
-pub mod Unmet
-pub mod Plans
-pub mod Ends
-pub mod Nodes
-pub mod Openings
-pub mod Steps
-pub mod Solves
 pub mod Finds
 pub mod Calls
 pub mod Only

@@ -18,18 +18,17 @@ use Rattle.hall.specs.Settings.{Satisfies}
 use Rattle.hall.specs.Walk.{walkHall}
 use Rattle.hall.specs.Ranges.{SheetOf}
 use Rattle.hall.specs.Bound.{boundOf}
-use Rattle.hall.specs.Due.{Reason}
+use Rattle.hall.specs.Due.{devicesOn, Reason}
 use Rattle.hall.specs.Answer as hall
 use Rattle.hall.specs.Answer.{answer, numbers, roomAfter}
 use Rattle.hall.proofs.Budget as budgets
 use Rattle.hall.proofs.Exactly as exactly
-use Rattle.sheet.specs.Check.{kindOf}
-use Rattle.sheet.specs.Contract.{faultOf}
-use Rattle.sheet.specs.declared.Refusal.{Refusal}
-use Rattle.sheet.proofs.Faults.{kind-fault}
+use Rattle.refusals.specs.Contract.{faultOf, kindOf}
+use Rattle.refusals.specs.declared.Refusal.{Refusal}
+use Rattle.refusals.proofs.Faults.{kind-fault}
 use Rattle.search.specs.declared.Answer.{Answer}
 use Rattle.search.specs.declared.Answer.the-variants.{Least, None, Spent, Refused}
-use Rattle.search.specs.Contract.{numbersOf, answerOf, devicesOn, Finds}
+use Rattle.search.specs.Contract.{numbersOf, answerOf, Finds}
 use Rattle.search.proofs.Finds.{Matches, match}
 
 pub numbers-injective : (r s : Answer) → numbersOf r ≡ numbersOf s → r ≡ s

@@ -7,11 +7,11 @@ use Prim.Native.Nat.{ℕ}
 use lib.ListN.{length, take}
 use lib.IntN.{ℤ}
 use Rattle.hall.specs.Hall.{Plan}
-use Rattle.hall.specs.Due.{size}
+use Rattle.hall.specs.Due.{devicesOn}
 use Rattle.hall.specs.Answer as hall
 use Rattle.hall.specs.Answer.{answer, numbers, roomAfter}
 use Rattle.hall.specs.Demands.{Answered}
-use Rattle.sheet.specs.Contract.{faultOf, numbersAt}
+use Rattle.refusals.specs.Contract.{faultOf, numbersAt}
 use Rattle.search.specs.declared.Answer.{Answer}
 use Rattle.search.specs.declared.Answer.the-variants.{Least, None, Spent, Refused}
 
@@ -28,11 +28,6 @@ answerOf (Least cost held opened) plan = hall.least cost held opened plan
 answerOf (None opened) plan = hall.none opened
 answerOf (Spent opened) plan = hall.spent opened
 answerOf (Refused kind place) plan = hall.refused (faultOf kind) place
-
--- n, the number of devices: a sheet's first word
-abbrev pub devicesOn : List ℤ → ℕ
-devicesOn [] = 0
-devicesOn (w ∷ ws) = size w
 
 pub record Finds (ws : List ℤ) (budget : ℕ) (before : List ℕ) (r : Answer) (after : List ℕ) : Type 0 where
   -- the paper's numbers of the answer are the definition's for these words, this budget and this room's length

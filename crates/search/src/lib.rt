@@ -1,20 +1,10 @@
-// Finds the least restriction plan of a hall sheet: 01, "The walk" and "The answer sheet of the search"; 02, request 3.
+// Finds the least restriction plan of a hall sheet: 01, "The answer sheet of the search"; 02, request 3.
 //
-// `needed` reads the sheet without the rules that every plan meets, so that no node tests them. meter counts the nodes against the budget;
-// rules finds the first rule that is not met; plan holds and releases devices; node opens a node; walk goes from a node to its children;
-// solve makes the rooms, walks from the first node and gives what it finds.
+// `walk` reads the sheet and walks it. Its best plan goes into a room of our own first, so that the caller's room is written once, and only
+// with a least plan.
 ghost use Rattle.search.specs.Contract.{Finds};
-
-mod meter;
-mod node;
-mod plan;
-mod rules;
-mod solve;
-mod walk;
-
-use sheet::Refusal;
-use sheet::Sheet;
-use solve::solve;
+use refusals::Refusal;
+use walk::Outcome;
 
 // Cost, devices held and nodes opened; or nodes opened; or the kind of refusal and its place.
 pub enum Answer {
@@ -28,11 +18,14 @@ pub enum Answer {
 pub fn least_plan(words: &[i32], budget: u32, room: &mut [u8]) -> Answer
     ensures { λ r. ⌜ Finds (now (words .entry)) budget (now (room .entry)) r (now (room .exit)) ⌝ }
 {
-    let mut costs = rooms::costs_room();
-    let mut codes = rooms::codes_room();
-    let mut starts = rooms::starts_room();
-    match needed::read(words, room.len(), &mut costs, &mut codes, &mut starts) {
-        Sheet::Refused(kind, place) => Answer::Refused(kind, place),
-        Sheet::Hall(n, m) => solve(&costs[0..n], &codes, &starts, m, budget, room),
+    let mut best = rooms::plan_room();
+    match walk::best_of(words, room.len(), budget, &mut best) {
+        Outcome::Best(n, cost, held, _, opened) => {
+            plans::write_plan(&best[0..n], room);
+            Answer::Least(cost, held, opened)
+        }
+        Outcome::None(opened) => Answer::None(opened),
+        Outcome::Spent(opened) => Answer::Spent(opened),
+        Outcome::Refused(kind, place) => Answer::Refused(kind, place),
     }
 }

@@ -10,10 +10,9 @@ use Prim.Native.Nat.{ℕ, zero, suc, _+_, _-_, _/_, _%_, _≤_, _<_}
 use native.Mathlib.Numerals.{sub-one}
 use native.Mathlib.Omega.{arith}
 use lib.ListN.{length, getD}
-use Rattle.lists.specs.Lists.{Each}
+use Rattle.lists.specs.Lists.{Each, In, first, later}
 use Rattle.lists.proofs.Cases.{Tri, below, level, above, tri}
 use Rattle.hall.specs.Hall.{Entry, device, mark}
-use Rattle.hall.proofs.Rules.{In, first, later}
 use Rattle.sheet.specs.Coded.{entryFrom, entryOf, entriesOf, ruleOf, rulesOf, Laid, entryCode}
 
 pub device-of : (code : ℕ) → device (entryOf code) ≡ code / 2

@@ -16,19 +16,19 @@ use lib.Dec.{leb}
 use borrow.Author.Tests.{leb-true}
 use Rattle.hall.specs.Reading.{Fault, badWidth, Read, bad, got, then, asRead, atWord, word, onlyIf, upTo, times, entry, rule, allRules}
 use Rattle.hall.proofs.Reading.{reads-on}
+use Rattle.refusals.specs.Contract.{faultOf, kindOf}
+use Rattle.refusals.specs.declared.Refusal.{Refusal}
+use Rattle.refusals.specs.declared.Refusal.the-variants.{TooShort}
+use Rattle.refusals.proofs.Faults.{kind-fault}
 use Rattle.sheet.specs.Word.{itemBy, itemOf}
-use Rattle.sheet.specs.Check.{kindOf, countOf, stepOf}
-use Rattle.sheet.specs.Contract.{faultOf}
+use Rattle.sheet.specs.Check.{countOf, stepOf}
 use Rattle.sheet.specs.declared.word.Item.{Item}
 use Rattle.sheet.specs.declared.word.Item.the-variants as item
 use Rattle.sheet.specs.declared.check.Count.{Count}
 use Rattle.sheet.specs.declared.check.Count.the-variants as count
 use Rattle.sheet.specs.declared.check.Step.{Step}
 use Rattle.sheet.specs.declared.check.Step.the-variants as step
-use Rattle.sheet.specs.declared.Refusal.{Refusal}
-use Rattle.sheet.specs.declared.Refusal.the-variants.{TooShort}
 use Rattle.sheet.proofs.Items.{alike-same, inside, told-missing, told-outside}
-use Rattle.sheet.proofs.Faults.{kind-fault}
 use Rattle.sheet.proofs.Runs.{run-bad, run-on, run-done}
 
 -- ── a count that is made ──

@@ -19,15 +19,15 @@ use Rattle.hall.proofs.Words.{number-words-length}
 use Rattle.hall.proofs.Reading.{past}
 use Rattle.hall.proofs.Reasons.{decoded}
 use Rattle.lists.proofs.InFront.{sets-in-front}
+use Rattle.refusals.specs.declared.Refusal.{Refusal}
+use Rattle.refusals.proofs.Faults.{fault-kind}
 use Rattle.sheet.specs.Coded.{entryCodes, startsFrom}
 use Rattle.sheet.specs.Word.{numbersFrom}
 use Rattle.sheet.specs.Check.{sheetOf}
 use Rattle.sheet.specs.Placed.{codesIn, startsIn, RulesStand, RulesRoom, RulesPut}
 use Rattle.sheet.specs.Contract.{numbersOf, numbersRead, Holds, ArraysAfter, Decodes}
-use Rattle.sheet.specs.declared.Refusal.{Refusal}
 use Rattle.sheet.specs.declared.Sheet.{Sheet}
 use Rattle.sheet.specs.declared.Sheet.the-variants as sheet
-use Rattle.sheet.proofs.Faults.{fault-kind}
 use Rattle.sheet.proofs.Standing.{costs-stand, codes-stand, starts-stand, codes-length, starts-length, few-entries}
 
 -- ── the numbers of an answer ──

@@ -15,10 +15,11 @@ use lib.Dec.{ltb}
 use borrow.Author.Tests.{le-leb, lt-leb, lt-ltb, le-ltb, ltb-true}
 use Rattle.hall.specs.Hall.{Entry, at1, at0, device}
 use Rattle.hall.specs.Reading.{Fault, tooShort, Read, bad, got, asRead, atWord, word, onlyIf, upTo, asEntry}
+use Rattle.refusals.specs.Word.{splitOf}
+use Rattle.refusals.specs.declared.Split.{Split}
+use Rattle.refusals.specs.declared.Split.the-variants as split
 use Rattle.sheet.specs.Coded.{entryCode}
-use Rattle.sheet.specs.Word.{splitOf, wordOf, itemBy, itemOf, codeBy, codeIn, numberIn, codeOrZero}
-use Rattle.sheet.specs.declared.Split.{Split}
-use Rattle.sheet.specs.declared.Split.the-variants as split
+use Rattle.sheet.specs.Word.{wordOf, itemBy, itemOf, codeBy, codeIn, numberIn, codeOrZero}
 use Rattle.sheet.specs.declared.word.Word.{Word}
 use Rattle.sheet.specs.declared.word.Word.the-variants as word-is
 use Rattle.sheet.specs.declared.word.Item.{Item}

@@ -1,14 +1,11 @@
 -- Laws, in the order in which the functions need them; then what the contract of `read` gives.
-pub mod Signed
 pub mod Items
-pub mod Faults
 pub mod Runs
 pub mod Counts
 pub mod Whole
 pub mod Placing
 pub mod Standing
 pub mod Putting
-pub mod ToldNumbers
 pub mod Decoding
 pub mod Coded
 pub mod Codes

@@ -1,27 +1,18 @@
--- The contracts leave no choice: equal numbers, equal refusals and answers (`refusal-only`, `numbers-injective`); two results that
--- the contract of `numbers_of` or of `read` allows are equal, the arrays included (`tells-only`, `decodes-only`). Assumes nothing.
-use mathlib.Core.Path.{_≡_, sym, _∙_, ap}
+-- The contract leaves no choice: equal numbers, equal answers (`numbers-injective`); two results that the contract of `read` allows are
+-- equal, the arrays included (`decodes-only`). Assumes nothing.
+use mathlib.Core.Path.{_≡_, sym, _∙_}
 use mathlib.Core.List.{List}
 use Prim.Native.Nat.{ℕ}
 use native.Mathlib.Omega.{arith}
 use lib.IntN.{ℤ}
 use Rattle.hall.specs.Hall.{Hall}
 use Rattle.hall.specs.Reading.{Read, bad, got, decode}
-use Rattle.hall.proofs.Refusals.{code-large, refusal-injective}
-use Rattle.sheet.specs.Check.{kindOf}
-use Rattle.sheet.specs.Contract.{faultOf, numbersAt, Tells, numbersOf, ArraysAfter, Decodes}
-use Rattle.sheet.specs.declared.Refusal.{Refusal}
+use Rattle.hall.proofs.Refusals.{code-large}
+use Rattle.refusals.specs.Contract.{faultOf}
+use Rattle.refusals.proofs.Only.{refusal-only}
+use Rattle.sheet.specs.Contract.{numbersOf, ArraysAfter, Decodes}
 use Rattle.sheet.specs.declared.Sheet.{Sheet}
 use Rattle.sheet.specs.declared.Sheet.the-variants as sheet
-use Rattle.sheet.proofs.Faults.{kind-fault}
-
-pub refusal-only : (k l : Refusal) (p q : ℕ) → numbersAt k p ≡ numbersAt l q → (k ≡ l) × (p ≡ q)
-refusal-only k l p q e =
-    let x = refusal-injective (faultOf k) (faultOf l) p q e in
-    (sym (kind-fault k) ∙ ap kindOf (x .0) ∙ kind-fault l, x .1)
-
-pub tells-only : (told before : List ℕ) (r r′ : ℕ) (after after′ : List ℕ) → Tells told before r after → Tells told before r′ after′ → (r ≡ r′) × (after ≡ after′)
-tells-only told before r r′ after after′ h k = (h .says ∙ sym (k .says), h .room ∙ sym (k .room))
 
 pub numbers-injective : (r s : Sheet) → numbersOf r ≡ numbersOf s → r ≡ s
 numbers-injective (sheet.Hall n m) (sheet.Hall n′ m′) e = let a : n ≡ n′ = cc in let b : m ≡ m′ = cc in rw (a, b)

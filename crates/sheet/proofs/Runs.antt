@@ -11,13 +11,14 @@ use native.Mathlib.Numerals.{sub-one}
 use lib.ListN.{length, getElem?}
 use lib.IntN.{ℤ}
 use Rattle.hall.specs.Reading.{Fault, tooShort, badCost, badEntry, Read, bad, got, Reader, then, _>>=_, yield, word, upTo, asEntry, times, cost, entry}
+use Rattle.refusals.specs.Contract.{kindOf}
+use Rattle.refusals.specs.declared.Refusal.the-variants.{TooShort, BadCost, BadEntry}
 use Rattle.sheet.specs.Word.{itemOf, codeIn}
-use Rattle.sheet.specs.Check.{kindOf, stepOf}
+use Rattle.sheet.specs.Check.{stepOf}
 use Rattle.sheet.specs.declared.word.Item.{Item}
 use Rattle.sheet.specs.declared.word.Item.the-variants as item
 use Rattle.sheet.specs.declared.check.Step.{Step}
 use Rattle.sheet.specs.declared.check.Step.the-variants as step
-use Rattle.sheet.specs.declared.Refusal.the-variants.{TooShort, BadCost, BadEntry}
 use Rattle.sheet.proofs.Items.{Alike, alike-same, entry-alike, told-missing, told-outside, told-is}
 
 -- ── any reader ──

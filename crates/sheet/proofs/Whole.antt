@@ -12,9 +12,10 @@ use borrow.Author.Tests.{lt-ltb, le-ltb}
 use Rattle.hall.specs.Hall.{Hall}
 use Rattle.hall.specs.Reading.{Fault, badDeviceCount, badRuleCount, Read, bad, got, Reader, then, _>>=_, yield, word, upTo, times, cost, rule, allRules, hall, ended, hasRoom, decodeBy, decode}
 use Rattle.hall.proofs.Reading.{reads, reads-on}
-use Rattle.sheet.specs.Check.{kindOf, countOf, stepOf, sheetOf}
-use Rattle.sheet.specs.declared.Refusal.{Refusal}
-use Rattle.sheet.specs.declared.Refusal.the-variants.{ExtraWords, SmallRoom, TooLong}
+use Rattle.refusals.specs.Contract.{kindOf}
+use Rattle.refusals.specs.declared.Refusal.{Refusal}
+use Rattle.refusals.specs.declared.Refusal.the-variants.{ExtraWords, SmallRoom, TooLong}
+use Rattle.sheet.specs.Check.{countOf, stepOf, sheetOf}
 use Rattle.sheet.specs.declared.Sheet.the-variants as sheet
 use Rattle.sheet.specs.declared.check.Count.{Count}
 use Rattle.sheet.specs.declared.check.Count.the-variants as count

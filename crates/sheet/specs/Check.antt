@@ -1,30 +1,17 @@
 -- What the check's parts say of the decoder's readings.
 --
--- In order: the kind of a refusal, between the code's enum and the definitions; a count, a part of the sheet, the whole. Definitions
--- only.
+-- In order: a count, a part of the sheet, the whole. Definitions only.
 use Prim.Native.Nat.{ℕ}
 use lib.ListN.{length}
 use Rattle.hall.specs.Hall.{Hall}
-use Rattle.hall.specs.Reading.{Fault, tooShort, badDeviceCount, badCost, badEntry, extraWords, smallRoom, tooLong, badRuleCount, badWidth, Read, bad, got}
-use Rattle.sheet.specs.declared.Refusal.{Refusal}
-use Rattle.sheet.specs.declared.Refusal.the-variants.{TooShort, BadDeviceCount, BadCost, BadEntry, ExtraWords, SmallRoom, TooLong, BadRuleCount, BadWidth}
+use Rattle.hall.specs.Reading.{Read, bad, got}
+use Rattle.refusals.specs.Contract.{kindOf}
 use Rattle.sheet.specs.declared.Sheet.{Sheet}
 use Rattle.sheet.specs.declared.Sheet.the-variants as sheet
 use Rattle.sheet.specs.declared.check.Count.{Count}
 use Rattle.sheet.specs.declared.check.Count.the-variants as count
 use Rattle.sheet.specs.declared.check.Step.{Step}
 use Rattle.sheet.specs.declared.check.Step.the-variants as step
-
-abbrev pub kindOf : Fault → Refusal
-kindOf tooShort = TooShort
-kindOf badDeviceCount = BadDeviceCount
-kindOf badCost = BadCost
-kindOf badEntry = BadEntry
-kindOf extraWords = ExtraWords
-kindOf smallRoom = SmallRoom
-kindOf tooLong = TooLong
-kindOf badRuleCount = BadRuleCount
-kindOf (badWidth rule) = BadWidth rule
 
 abbrev pub countOf : Read ℕ → Count
 countOf (bad f i) = count.Bad (kindOf f) i

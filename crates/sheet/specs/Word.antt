@@ -10,18 +10,12 @@ use lib.IntN.{ℤ, pos, negsuc}
 use Rattle.hall.specs.Hall.{Entry}
 use Rattle.hall.specs.Reading.{asEntry}
 use Rattle.sheet.specs.Coded.{entryCode}
-use Rattle.sheet.specs.declared.Split.{Split}
-use Rattle.sheet.specs.declared.Split.the-variants as split
 use Rattle.sheet.specs.declared.word.Word.{Word}
 use Rattle.sheet.specs.declared.word.Word.the-variants as word
 use Rattle.sheet.specs.declared.word.Item.{Item}
 use Rattle.sheet.specs.declared.word.Item.the-variants as item
 
 -- `negsuc n` is -n - 1
-abbrev pub splitOf : ℤ → Split
-splitOf (pos n) = split.Up n
-splitOf (negsuc n) = split.Down n
-
 abbrev pub wordOf : Option ℤ → Word
 wordOf none = word.Missing
 wordOf (some (pos n)) = word.Up n

@@ -3,13 +3,13 @@
 ghost use mathlib.Core.Path.{_≡_};
 ghost use Prim.Native.Nat.{_≤_};
 ghost use Rattle.hall.specs.Reading.{upTo, word, times, cost, entry, rule, allRules, decode};
+ghost use Rattle.refusals.specs.Contract.{faultOf};
 ghost use Rattle.sheet.specs.Check.{countOf, stepOf, sheetOf};
-ghost use Rattle.sheet.specs.Contract.{faultOf};
-use crate::Refusal;
 use crate::Sheet;
 use crate::word::Item;
 use crate::word::entry_at;
 use crate::word::number_at;
+use refusals::Refusal;
 
 // A count, or what is wrong with it.
 pub(crate) enum Count {

@@ -4,8 +4,8 @@ ghost use Prim.Native.Nat.{_≤_};
 ghost use lib.ListN.{getElem?};
 ghost use Rattle.hall.specs.Reading.{upTo};
 ghost use Rattle.sheet.specs.Word.{wordOf, itemOf, codeIn, valueAt, codeAt};
-use crate::Split;
-use crate::split_sign;
+use refusals::Split;
+use refusals::split_sign;
 
 // Up(n) is n, Down(k) is -(k + 1), Missing stands where the sheet has no such word.
 pub(crate) enum Word {

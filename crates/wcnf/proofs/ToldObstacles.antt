@@ -2,8 +2,8 @@
 use mathlib.Core.Path.{_≡_, sym, subst}
 use mathlib.Core.List.{List, [], _∷_}
 use Prim.Native.Nat.{ℕ}
-use Rattle.sheet.specs.Contract.{numbersAt, Tells}
-use Rattle.sheet.specs.declared.Refusal.{Refusal}
+use Rattle.refusals.specs.Contract.{numbersAt, Tells}
+use Rattle.refusals.specs.declared.Refusal.{Refusal}
 use Rattle.wcnf.specs.declared.Obstacle.{Obstacle}
 use Rattle.wcnf.specs.declared.Obstacle.the-variants.{BadSheet, ShortRoom}
 use Rattle.wcnf.specs.Contract.{obstacleNumbers}

@@ -22,9 +22,9 @@ use Rattle.hall.specs.Due.{Reason}
 use Rattle.hall.specs.Reading.{Read, bad, got, decode}
 use Rattle.hall.proofs.Reasons.{decoded, verdict-only}
 use Rattle.hall.proofs.Refusals.{code-large, tells}
-use Rattle.sheet.specs.Contract.{faultOf, numbersAt}
-use Rattle.sheet.specs.declared.Refusal.{Refusal}
-use Rattle.sheet.proofs.Only.{refusal-only}
+use Rattle.refusals.specs.Contract.{faultOf, numbersAt}
+use Rattle.refusals.specs.declared.Refusal.{Refusal}
+use Rattle.refusals.proofs.Only.{refusal-only}
 use Rattle.wcnf.specs.declared.Edition.{Edition}
 use Rattle.wcnf.specs.declared.Obstacle.{Obstacle}
 use Rattle.wcnf.specs.declared.Obstacle.the-variants.{BadSheet, ShortRoom}

@@ -23,8 +23,8 @@ use Rattle.hall.specs.Hall.{Rule, Hall, leaveOut}
 use Rattle.hall.proofs.LeftOut.{without-in-range}
 use Rattle.hall.proofs.Reasons.{Verdict, verdict}
 use Rattle.hall.proofs.Sums.{cost-at-most}
+use Rattle.refusals.specs.declared.Refusal.{Refusal}
 use Rattle.sheet.specs.Coded.{rulesOf}
-use Rattle.sheet.specs.declared.Refusal.{Refusal}
 use Rattle.sheet.specs.declared.Sheet.{Sheet}
 use Rattle.sheet.specs.declared.Sheet.the-variants as sheet
 use Rattle.needed.specs.Contract.{ReadsNeeded}

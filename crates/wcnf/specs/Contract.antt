@@ -13,7 +13,7 @@ use Rattle.hall.specs.Hall.{Hall}
 use Rattle.hall.specs.Ranges.{SheetOf}
 use Rattle.hall.specs.Reading.{refusalNumbers}
 use Rattle.hall.specs.Due.{Reason}
-use Rattle.sheet.specs.Contract.{faultOf, numbersAt}
+use Rattle.refusals.specs.Contract.{faultOf, numbersAt}
 use Rattle.rails.specs.Rails.{clauses, variables, Encodes}
 use Rattle.wcnf.specs.declared.Edition.{Edition}
 use Rattle.wcnf.specs.declared.Obstacle.{Obstacle}

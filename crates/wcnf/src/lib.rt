@@ -6,8 +6,8 @@
 // counts what the first line of the edition before 2022 says.
 ghost use Prim.Native.Nat.{_+_};
 ghost use lib.ListN.{length};
+ghost use Rattle.refusals.specs.Contract.{Tells};
 ghost use Rattle.sheet.specs.Coded.{rulesOf};
-ghost use Rattle.sheet.specs.Contract.{Tells};
 ghost use Rattle.printing.specs.Contract.{Puts};
 ghost use Rattle.rails.specs.Rails.{encoded};
 ghost use Rattle.wcnf.specs.Contract.{obstacleNumbers, Writes};
@@ -20,11 +20,11 @@ mod totals;
 use lines::put_clauses;
 use printing::put;
 use printing::put_line;
+use refusals::Refusal;
 use rooms::codes_room;
 use rooms::costs_room;
 use rooms::starts_room;
 use rooms::wcnf_room;
-use sheet::Refusal;
 use sheet::Sheet;
 use totals::totals_of;
 
@@ -52,8 +52,8 @@ pub fn numbers_of(obstacle: Obstacle, place: usize, numbers: &mut [u64; 4]) -> u
     ensures { λ r. ⌜ Tells (obstacleNumbers obstacle place) (now (numbers .entry)) r (now (numbers .exit)) ⌝ }
 {
     match obstacle {
-        Obstacle::BadSheet(refusal) => sheet::numbers_of(refusal, place, numbers),
-        Obstacle::ShortRoom => sheet::tell_code(41, place, numbers),
+        Obstacle::BadSheet(refusal) => refusals::numbers_of(refusal, place, numbers),
+        Obstacle::ShortRoom => refusals::tell_code(41, place, numbers),
     }
 }
 

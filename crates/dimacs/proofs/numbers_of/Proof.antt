@@ -3,7 +3,7 @@ use mathlib.Core.Path.{_≡_, _∙_, sym, ap, subst}
 use mathlib.Core.List.{List, [], _∷_}
 use Prim.Native.Nat.{ℕ}
 use borrow.Author.Needs.{needs}
-use Rattle.sheet.specs.Contract.{Tells}
+use Rattle.refusals.specs.Contract.{Tells}
 use Rattle.dimacs.specs.File.{flawNumbers}
 use Rattle.dimacs.specs.declared.Flaw.{Flaw}
 use Rattle.dimacs.proofs.numbers_of.Statement.{statement}

@@ -1,7 +1,7 @@
 -- `hand_sheet` meets its contract: the text as it was written (`hands-text`), or the line of its refusal (`hands-refused`).
 -- Assumes nothing.
 use native.Mathlib.Omega.{arith}
-use Rattle.sheet.proofs.ToldNumbers.{told-long}
+use Rattle.refusals.proofs.ToldNumbers.{told-long}
 use Rattle.handing.proofs.HandedText.{hands-text, hands-refused}
 use borrow.Author.Needs.{needs}
 use Rattle.handing.proofs.hand_sheet.Statement.{statement}

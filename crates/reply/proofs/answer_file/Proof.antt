@@ -1,7 +1,7 @@
 -- `answer_file` meets its contract: a file that is refused (`replies-file-refused`), or one whose words are searched (`replies-file-words`).
 -- Assumes nothing.
 use native.Mathlib.Omega.{arith}
-use Rattle.sheet.proofs.ToldNumbers.{told-long}
+use Rattle.refusals.proofs.ToldNumbers.{told-long}
 use Rattle.reply.proofs.RepliesFile.{file-within, replies-file-refused, replies-file-words}
 use borrow.Author.Needs.{needs}
 use Rattle.reply.proofs.answer_file.Statement.{statement}

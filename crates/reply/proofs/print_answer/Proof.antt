@@ -1,6 +1,6 @@
 -- `print_answer` meets its contract: for each case its lines are the definition's (Prints). Assumes nothing.
 use native.Mathlib.Omega.{arith}
-use Rattle.sheet.proofs.ToldNumbers.{told-long}
+use Rattle.refusals.proofs.ToldNumbers.{told-long}
 use Rattle.reply.proofs.Prints.{prints-least, prints-none, prints-spent, prints-refused}
 use borrow.Author.Needs.{needs}
 use Rattle.reply.proofs.print_answer.Statement.{statement}
@@ -30,8 +30,8 @@ put-hold-requires c κs = search needs
 enum-known-answer-2 : tie.Need-enum-known-answer-2
 enum-known-answer-2 c = search needs
 
-cast-t31 : tie.Need-cast-t31
-cast-t31 c = search needs
+cast-t33 : tie.Need-cast-t33
+cast-t33 c = search needs
 
 slice-aggregate-put-line-3 : tie.Need-slice-aggregate-put-line-3
 slice-aggregate-put-line-3 c = search needs
@@ -45,8 +45,8 @@ put-line-requires-2 c κs = search needs
 enum-known-answer-3 : tie.Need-enum-known-answer-3
 enum-known-answer-3 c = search needs
 
-cast-t38 : tie.Need-cast-t38
-cast-t38 c = search needs
+cast-t40 : tie.Need-cast-t40
+cast-t40 c = search needs
 
 slice-aggregate-put-line-5 : tie.Need-slice-aggregate-put-line-5
 slice-aggregate-put-line-5 c = search needs
@@ -103,12 +103,12 @@ print-answer-spec =
     put-line-requires
     put-hold-requires
     enum-known-answer-2
-    cast-t31
+    cast-t33
     slice-aggregate-put-line-3
     slice-aggregate-put-line-4
     put-line-requires-2
     enum-known-answer-3
-    cast-t38
+    cast-t40
     slice-aggregate-put-line-5
     slice-aggregate-put-line-6
     put-line-requires-3

@@ -1,9 +1,9 @@
--- The sign is split as `sheet`'s `word_at` splits it: `-(w + 1)` of a negative word is what its `negsuc` holds.
+-- The sign is split as `split_sign` of `refusals` splits it: `-(w + 1)` of a negative word is what its `negsuc` holds.
 use native.Mathlib.Omega.{arith}
 use borrow.Author.Needs.{needs}
 use mir.Syntax.{w32}
 use mir.Val.{SFits}
-use Rattle.sheet.proofs.Signed.{Negative, NotNegative, negative, not-negative}
+use Rattle.refusals.proofs.Signed.{Negative, NotNegative, negative, not-negative}
 use Rattle.damaged.proofs.telling.word.Statement.{statement}
 use Rattle.damaged.proofs.telling.word.Tie as tie
 

@@ -1,0 +1,2 @@
+-- Plans that lie one behind the other, and what is made of them.
+pub mod Runs

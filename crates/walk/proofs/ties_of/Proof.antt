@@ -1,0 +1,63 @@
+-- `ties_of` meets its contract: a refused sheet is told as it was read; a hall is walked, and what is found is handed on. Each is a law
+-- of Calls. Assumes nothing.
+use borrow.Author.Needs.{needs}
+use Rattle.walk.proofs.Calls.{call-few, call-loaded, ties-refused, ties-found}
+use Rattle.walk.proofs.ties_of.Statement.{statement}
+use Rattle.walk.proofs.ties_of.Tie as tie
+
+costs-room-requires : tie.Need-costs-room-requires
+costs-room-requires c κs = search needs
+
+codes-room-requires : tie.Need-codes-room-requires
+codes-room-requires c κs = search needs
+
+starts-room-requires : tie.Need-starts-room-requires
+starts-room-requires c κs = search needs
+
+read-requires : tie.Need-read-requires
+read-requires c κs = search needs
+
+enum-known-kind : tie.Need-enum-known-kind
+enum-known-kind c = search needs
+
+enum-known-n : tie.Need-enum-known-n
+enum-known-n c = search needs
+
+sub-solve-ties : tie.Need-sub-solve-ties
+sub-solve-ties c = search needs
+
+part-solve-ties-start : tie.Need-part-solve-ties-start
+part-solve-ties-start c = search needs
+
+part-solve-ties-end : tie.Need-part-solve-ties-end
+part-solve-ties-end c = search call-few
+
+solve-ties-requires : tie.Need-solve-ties-requires
+solve-ties-requires c κs = search call-loaded
+
+returns : tie.Need-returns
+returns c = search ties-refused
+
+same-length : tie.Need-same-length
+same-length c = search needs
+
+returns-2 : tie.Need-returns-2
+returns-2 c = search ties-found
+
+pub ties-of-spec : {M : Type 1} → statement M
+ties-of-spec =
+    tie.close
+    (tie.spec
+    costs-room-requires
+    codes-room-requires
+    starts-room-requires
+    read-requires
+    enum-known-kind
+    enum-known-n
+    sub-solve-ties
+    part-solve-ties-start
+    part-solve-ties-end
+    solve-ties-requires
+    returns
+    same-length
+    returns-2)
