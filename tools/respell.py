@@ -88,7 +88,9 @@ def main():
         sys.exit(f"respell: these fall together: {together}")
     for path in files("crates", (".antt", ".rt")):
         old = read(path)
-        new = turned(old, table, "--" if path.endswith(".antt") else "//")
+        declared = set(re.findall(r"\bfn (\w+)", old)) if path.endswith(".rt") else set()
+        own = {a: b for a, b in table.items() if a not in declared}
+        new = turned(old, own, "--" if path.endswith(".antt") else "//")
         if new != old:
             with open(path, "w", encoding="utf-8") as f:
                 f.write(new)

@@ -1,4 +1,6 @@
 // A DIMACS CNF file on standard input, the least plan of its sheet on standard output. 02, request 2.
+#![tactic(auto)]
+
 use input::Input;
 use libc::{STDERR_FILENO, STDOUT_FILENO};
 

@@ -1,5 +1,7 @@
 // Runs damaged sheets and texts through the readers and prints each answer on a line. What it must print is worked out by
 // tests/damaged.py, from document 01.
+#![tactic(auto)]
+
 mod sheets;
 mod telling;
 mod texts;

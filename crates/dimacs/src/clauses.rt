@@ -11,7 +11,7 @@ use refusals::{Refusal, Split};
 use typed::{Mistake, Next};
 
 // A number of a clause: the 0 at its end, an entry of one of the devices, or neither.
-#[derive(Drop)]
+#[derive(Clone, Copy)]
 enum Named {
     Zero,
     Device,
@@ -19,7 +19,7 @@ enum Named {
 }
 
 // What a number does: it closes its clause, it enters it, or it is refused.
-#[derive(Drop)]
+#[derive(Clone, Copy)]
 enum Judged {
     Closes,
     Enters,

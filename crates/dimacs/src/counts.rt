@@ -9,14 +9,14 @@ use refusals::{Refusal, Split};
 use typed::{Mistake, Next};
 
 // A count, with the places where its token starts and ends; or what is wrong, and where.
-#[derive(Drop)]
+#[derive(Clone, Copy)]
 enum Count {
     Is(u32, usize, usize),
     Bad(Flaw, usize),
 }
 
 // The numbers of variables and of clauses, and the place behind them; or what is wrong, and where.
-#[derive(Drop)]
+#[derive(Clone, Copy)]
 pub(crate) enum Counts {
     Are(u32, u32, usize),
     Bad(Flaw, usize),

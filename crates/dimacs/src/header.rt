@@ -7,14 +7,14 @@ use crate::lead::lead_end;
 use typed::Span;
 
 // Where the word that is looked for ends; or the place of what stands there instead.
-#[derive(Drop)]
+#[derive(Clone, Copy)]
 pub(crate) enum Header {
     Ends(usize),
     Missing(usize),
 }
 
 // Whether two runs of bytes are the same.
-fn same_bytes_lem(a: &[u8], b: &[u8]) -> bool
+fn same_bytes(a: &[u8], b: &[u8]) -> bool
     ensures { result ≡ same_bytes a.now b.now }
 {
     if a.len() != b.len() {
@@ -37,7 +37,7 @@ fn word_end(text: &[u8], from: usize, word: &[u8]) -> Header
     match typed::next_token(text, from) {
         Span::End => Header::Missing(text.len()),
         Span::Token(start, end) => {
-            if same_bytes_lem(word, &text[start..end]) {
+            if same_bytes(word, &text[start..end]) {
                 return Header::Ends(end);
             }
             Header::Missing(start)

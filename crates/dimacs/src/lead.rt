@@ -4,7 +4,7 @@ ghost use Rattle.dimacs.specs.File.{line_byte, spot_after, lead_length};
 ghost use Rattle.dimacs.specs.declared.lead.Spot.TheVariants.{LineStart};
 
 // Where a byte of a file leads: to the start of a line, to separators behind one, into a comment, or to the first token.
-#[derive(Drop)]
+#[derive(Clone, Copy)]
 pub(crate) enum Spot {
     LineStart,
     Blank,

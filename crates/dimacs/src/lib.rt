@@ -4,6 +4,8 @@
 // The file is read twice: first its header (lead, header), its two counts (counts) and its clauses (clauses) are looked at, and nothing
 // is written; then the sheet is put into the room (counts, clauses). So the room is unchanged on every refusal. Tokens and their
 // values are those of `typed`.
+#![tactic(auto)]
+
 ghost use Rattle.std.specs.Prelude.{◌≡◌};
 ghost use Rattle.refusals.specs.Contract.{Tells};
 ghost use Rattle.dimacs.specs.File.{flaw_numbers, limit_of};
@@ -22,7 +24,7 @@ use typed::Mistake;
 
 // The kinds of refusal: those of a typed text; those of a sheet; no header; a clause missing or not closed; a token behind the last
 // clause declared.
-#[derive(Drop)]
+#[derive(Clone, Copy)]
 pub enum Flaw {
     Text(Mistake),
     Sheet(Refusal),
@@ -32,7 +34,7 @@ pub enum Flaw {
 }
 
 // What a file is read as: a sheet of so many words; or a refusal and its place.
-#[derive(Drop)]
+#[derive(Clone, Copy)]
 pub enum Filed {
     Words(usize),
     Refused(Flaw, usize),

@@ -3,6 +3,8 @@
 //
 // C has no value with cases, so the answer goes into an array: the code, then what is returned, in the table's order. Every plain
 // name of the archive begins with the library's.
+#![tactic(auto)]
+
 ghost use Rattle.std.specs.Prelude.{◌≡◌, ◌≤◌, length};
 ghost use Rattle.lists.specs.Lists.{in_front};
 ghost use Rattle.exported.specs.Exported.{edition_of, Searches, ReadsFile, WritesText, ListsPlans};

@@ -2,6 +2,8 @@
 // sheet. 02, request 5.
 //
 // `tied` lists the plans in a room of our own, in order; holds puts a line for each.
+#![tactic(auto)]
+
 ghost use Rattle.std.specs.Prelude.{◌≡◌};
 ghost use Rattle.hall.specs.Due.{devices_on};
 ghost use Rattle.foreman.specs.Contract.{ListsSheet, ListsText};

@@ -64,6 +64,7 @@ once_right (e ∷ r) s h = once_right r s (and_both (absent (device e) (r ++ s))
 
 once_away : (r s : List Entry) → once (r ++ s) ≡ true → (e : Entry) → In e r → Away e s
 unfolding once
+once_away [] s h e x'' = elim x'' [ ]
 once_away (d ∷ r) s h e first = (away_split e r s (away e (r ++ s) (and_both (absent (device e) (r ++ s)) (once (r ++ s)) h).0)).1
 once_away (d ∷ r) s h e (later i) = once_away r s (and_both (absent (device d) (r ++ s)) (once (r ++ s)) h).1 e i
 
@@ -106,6 +107,7 @@ fit_away p e f (r ∷ rs) o a x = go x.0 (fit_away p e f rs o.2 a.1 x.1)
 -- holding a device of the first unmet rule
 pub fit_hold : (p : Plan) (e : Entry) → is_free p e ≡ true → (rs : List Rule) → Alone rs → Fit p rs → In e (first_unmet p rs) → Fit (hold p e) rs × (suc (unmet (hold p e) rs) ≡ unmet p rs)
 unfolding unmet first_unmet
+fit_hold p e f [] o x i = elim i [ ]
 fit_hold p e f (r ∷ rs) o x i = go (test (meets_rule p r)) x.0 (λ j. fit_hold p e f rs o.2 x.1 j)
   where
     go : (meets_rule p r ≡ true) ⊎ (meets_rule p r ≡ false) → (meets_rule p r ≡ true) ⊎ AllFree p r → (In e (first_unmet p rs) → Fit (hold p e) rs × (suc (unmet (hold p e) rs) ≡ unmet p rs))

@@ -29,6 +29,7 @@ module _ (h : Hall) (p : Plan) where
 
   pub into_ties : {q : Plan} (qs : List Plan) → In q qs → Ties q → In q (tying h p qs)
   unfolding tying
+  into_ties {q = q} [] x'' t = elim x'' [ ]
   into_ties (q ∷ qs) first t = rw (t.0, t.1) first
   into_ties {q} (o ∷ qs) (later i) t = go (meets_all o h.rules && ties h.costs o p) (into_ties qs i t)
     where
@@ -38,6 +39,7 @@ module _ (h : Hall) (p : Plan) where
 
   pub out_of_ties : {q : Plan} (qs : List Plan) → In q (tying h p qs) → In q qs × Ties q
   unfolding tying
+  out_of_ties {q = q} [] i = elim i [ ]
   out_of_ties {q} (o ∷ qs) i = go (meets_all o h.rules && ties h.costs o p) (and_both (meets_all o h.rules) (ties h.costs o p)) i (out_of_ties qs)
     where
       go : (b : Bool) → (b ≡ true → Ties o) → In q (cond b (o ∷ tying h p qs) (tying h p qs)) → (In q (tying h p qs) → In q qs × Ties q) → In q (o ∷ qs) × Ties q

@@ -44,6 +44,7 @@ stands_in_lem p (q ∷ ts) h = go (not (less p q || less q p)) (stands_here p q)
 
 in_stands : {p : Plan} (ts : List Plan) → In p ts → stands_in p ts ≡ true
 unfolding stands_in
+in_stands {p = p} [] x' = elim x' [ ]
 in_stands (p ∷ ts) first = rw (irreflexive p)
 in_stands {p} (q ∷ ts) (later i) = or_right (not (less p q || less q p)) (stands_in p ts) (in_stands ts i)
 

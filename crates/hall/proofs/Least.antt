@@ -91,6 +91,7 @@ module _ (h : Hall) where
         → ((e : Entry) (b : Best) → is_free p e ≡ true → Extends (hold p e) q → Covered (c (hold p e) b).best)
         → Branch p q es → Covered (through c p es b).best
     unfolding through entry_by after
+    through_covers c k p [] b ih x'' = elim x'' [ ]
     through_covers c k p (e ∷ es) b ih (here f x) = rw f (through_keeps Covered c k p es _ (ih e b f x))
     through_covers c k p (e ∷ es) b ih (there n i) = go (is_free p e) (λ b. through_covers c k p es b ih i)
       where

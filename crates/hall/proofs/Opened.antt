@@ -106,6 +106,7 @@ module _ (h : Hall) (q : Plan) where
   through_finds : (c : Walker) → Keeps Beaten c → (p : Plan) (es : Rule) (b : Best) → ((e : Entry) → is_free p e ≡ true → Finds c (hold p e))
       → Branch p q es → Found (through c p es b).plans (through c p es b).best
   unfolding through entry_by after
+  through_finds c k p [] b ih x'' = elim x'' [ ]
   through_finds c k p (e ∷ es) b ih (here f x) = rw f (⊎_map (in_front_lem _) (through_keeps Beaten c k p es _) (ih e f b x))
   through_finds c k p (e ∷ es) b ih (there n i) = go (is_free p e) (λ b. through_finds c k p es b ih i)
     where

@@ -30,6 +30,7 @@ rising_rest p (q ∷ ps) r = r.1
 
 -- so it comes before all that stand behind it
 rising_ahead : {q : Plan} (p : Plan) (ps : List Plan) → Rising (p ∷ ps) → In q ps → less p q ≡ true
+rising_ahead {q = q} p [] r x'' = elim x'' [ ]
 rising_ahead p (q ∷ ps) r first = r.0
 rising_ahead {q} p (o ∷ ps) r (later i) = transitive p o q r.0 (rising_ahead o ps r.1 i)
 
@@ -60,6 +61,7 @@ place_here p (q ∷ qs) = go (less p q) (less q p) refl refl (place_here p qs)
 
 place_keeps : {r : Plan} (p : Plan) (ps : List Plan) → In r ps → In r (place p ps)
 unfolding place place_by
+place_keeps {r = r} p [] i = elim i [ ]
 place_keeps {r} p (q ∷ qs) i = go (less p q) (less q p) i (in_cons i) (place_keeps p qs)
   where
     go : (s t : Bool) → In r (q ∷ qs) → (r ≡ q) ⊎ In r qs → (In r qs → In r (place p qs)) → In r (place_by s t p q qs (place p qs))
@@ -96,11 +98,13 @@ ordered (p ∷ ps) = place_rising p (in_order ps) (ordered ps)
 
 pub into_order : {q : Plan} (ps : List Plan) → In q ps → In q (in_order ps)
 unfolding in_order
+into_order {q = q} [] x' = elim x' [ ]
 into_order (q ∷ ps) first = place_here q (in_order ps)
 into_order (p ∷ ps) (later i) = place_keeps p (in_order ps) (into_order ps i)
 
 pub out_of_order : {q : Plan} (ps : List Plan) → In q (in_order ps) → In q ps
 unfolding in_order
+out_of_order {q = q} [] i = elim i [ ]
 out_of_order (p ∷ ps) i = ⊎_elim (λ e. rw e first) (λ j. later (out_of_order ps j)) (placed p (in_order ps) i)
 
 -- the first of each list stands in the other, so neither comes before the other; so with the rest

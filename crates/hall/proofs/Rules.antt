@@ -46,6 +46,7 @@ same_device (at0 v) = refl
 
 pub in_among : (e : Entry) (r : Rule) → In e r → among e r ≡ true
 unfolding among
+in_among e [] x' = elim x' [ ]
 in_among e (e' ∷ es) first = rw (eq-eqb (device e) (device e) refl, eq-eqb (mark e) (mark e) refl)
 in_among e (d ∷ es) (later i) = or_right (eqb (device d) (device e) && eqb (mark d) (mark e)) (among e es) (in_among e es i)
 
@@ -67,6 +68,7 @@ among_in e (d ∷ ds) h = go (test (eqb (device d) (device e) && eqb (mark d) (m
 -- a rule names both positions of a device exactly where an entry and its opposite stand in it
 pub both_named : (e : Entry) (r : Rule) → In e r → In (opposite e) r → names_both r ≡ true
 unfolding names_both
+both_named e [] x'' _ = elim x'' [ ]
 both_named e (d ∷ ds) (later i) (later j) = or_right (among (opposite d) ds) (names_both ds) (both_named e ds i j)
 both_named (at1 v) (d ∷ ds) first (later j) = rw (in_among (at0 v) ds j)
 both_named (at0 v) (d ∷ ds) first (later j) = rw (in_among (at1 v) ds j)
@@ -133,6 +135,7 @@ meets_mono {p} {q} r x h = go (names_both r) h
 -- law 3: a rule with an entry that is held is met
 one_held : (p : Plan) (e : Entry) (r : Rule) → In e r → holds p e ≡ true → holds_one p r ≡ true
 unfolding holds_one
+one_held p e [] x'' h = elim x'' [ ]
 one_held p e (e' ∷ es) first h = rw h
 one_held p e (d ∷ es) (later i) h = or_right (holds p d) (holds_one p es) (one_held p e es i h)
 

@@ -42,6 +42,7 @@ rule_by_rule n p rs = (all_each n p rs, each_all n p rs)
 -- ── what the test passes is always true ──
 one_true : (s : Setting) (e : Entry) (r : Rule) → In e r → is_true s e ≡ true → rule_true s r ≡ true
 unfolding rule_true
+one_true s e [] x'' h = elim x'' [ ]
 one_true s e (e' ∷ es) first h = rw h
 one_true s e (d ∷ es) (later i) h = or_right (is_true s d) (rule_true s es) (one_true s e es i h)
 

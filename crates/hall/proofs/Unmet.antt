@@ -53,6 +53,7 @@ unmet_mono {p} {q} (r ∷ rs) x = go (test (meets_rule p r)) (unmet_mono rs x)
 
 pub unmet_falls : (p : Plan) (e : Entry) (rs : List Rule) → In e (first_unmet p rs) → is_free p e ≡ true → unmet (hold p e) rs < unmet p rs
 unfolding unmet first_unmet
+unmet_falls p e [] i f = elim i [ ]
 unmet_falls p e (r ∷ rs) i f = go (test (meets_rule p r)) i (λ j. unmet_falls p e rs j f)
   where
     go : (meets_rule p r ≡ true) ⊎ (meets_rule p r ≡ false) → In e (cond (meets_rule p r) (first_unmet p rs) r) → (In e (first_unmet p rs) → unmet (hold p e) rs < unmet p rs) → unmet (hold p e) (r ∷ rs) < unmet p (r ∷ rs)

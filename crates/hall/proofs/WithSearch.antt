@@ -23,6 +23,7 @@ use Rattle.hall.proofs.Listed.{lists}
 
 -- the first of a list in order is better than each of the others
 ranked_ahead : (cs : List ℕ) {q : Plan} (p : Plan) (ps : List Plan) → Ranked cs (p ∷ ps) → In q ps → better cs p q ≡ true
+ranked_ahead cs {q = q} p [] r x'' = elim x'' [ ]
 ranked_ahead cs p (q ∷ ps) r first = r.0
 ranked_ahead cs {q} p (o ∷ ps) r (later i) = better_transitive cs p o q r.0 (ranked_ahead cs o ps r.1 i)
 

@@ -1,4 +1,6 @@
 // What `maxsat` prints, as bytes in a lent room, and the whole way to it: from a typed text to the WCNF text of its sheet. 02, request 4.
+#![tactic(auto)]
+
 ghost use Rattle.std.specs.Prelude.{◌≡◌};
 ghost use Rattle.handing.specs.Contract.{chosen, HandsSheet, Hands};
 
@@ -9,7 +11,7 @@ use typed::Reading;
 use wcnf::{Edition, Written};
 
 // The edition that a program's arguments ask for; or they ask for nothing that there is.
-#[derive(Drop)]
+#[derive(Clone, Copy)]
 pub enum Choice {
     In(Edition),
     Unknown,

@@ -1,10 +1,12 @@
 // Standard input, read into a lent room. Shared by the programs that answer what they are fed.
+#![tactic(auto)]
+
 ghost use Rattle.input.specs.Input.{Within};
 
 use libc::STDIN_FILENO;
 
 // How many bytes came; or the input could not be read.
-#[derive(Drop)]
+#[derive(Clone, Copy)]
 pub enum Input {
     Bytes(usize),
     Failed,

@@ -1,4 +1,6 @@
 // A sheet typed on standard input, its least plan on standard output. 01, "What leastplan prints".
+#![tactic(auto)]
+
 use input::Input;
 use libc::{STDERR_FILENO, STDOUT_FILENO};
 

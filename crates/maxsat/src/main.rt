@@ -1,4 +1,6 @@
 // A sheet typed on standard input, its WCNF text on standard output, for MaxSAT solvers. 02, request 4.
+#![tactic(auto)]
+
 use handing::Choice;
 use input::Input;
 use libc::{STDERR_FILENO, STDOUT_FILENO};

@@ -2,6 +2,8 @@
 //
 // `sheet` reads the whole sheet; the rules that name both positions of a device are then left out (leave), once per call, so that
 // what goes through the rules of a hall afterwards has the others alone before it.
+#![tactic(auto)]
+
 ghost use Rattle.needed.specs.Contract.{ReadsNeeded};
 
 mod leave;

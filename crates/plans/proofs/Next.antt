@@ -83,6 +83,7 @@ behind_all (suc n) run = marked_behind (suc n) (plans_in (suc n) run) (omega ari
 
 into_behind : {q : Plan} (last : Plan) (ps : List Plan) → In q ps → less last q ≡ true → In q (behind last ps)
 unfolding behind
+into_behind {q = q} last [] x'' l = elim x'' [ ]
 into_behind last (p ∷ ps) first l = rw l first
 into_behind {q} last (p ∷ ps) (later i) l = go (less last p) (into_behind last ps i l)
   where

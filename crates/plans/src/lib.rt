@@ -1,5 +1,7 @@
 // Plans as bytes: which of two comes first, whether one stands in a run of plans, writing one into a room, and a run of plans put in
 // order into a room. A run is bytes in which plans of n marks each lie one behind the other. 02, request 5.
+#![tactic(auto)]
+
 ghost use Rattle.std.specs.Prelude.{◌≡◌, ◌&&◌, ◌||◌, not, [], length};
 ghost use Rattle.hall.specs.Order.{less};
 ghost use Rattle.hall.specs.Ties.{stands_in};

@@ -2,6 +2,8 @@
 //
 // Each function gives the place behind what it put. What has no place in the room is left out, and nothing else is written: so no caller
 // has to count ahead, and one that knows that all of its bytes fit knows what its room holds. held puts the devices of a plan.
+#![tactic(auto)]
+
 ghost use Rattle.std.specs.Prelude.{◌≡◌, ◌++◌};
 ghost use Rattle.lists.specs.Bytes.{bytes};
 ghost use Rattle.typed.specs.Printing.{digits_of};

@@ -2,6 +2,8 @@
 //
 // What the readers of sheets and of rule files have in common: the kinds of refusal; the numbers of a refusal, put in front of a lent
 // array (telling); and the one function that reads a signed word (`split_sign`), so that all else is unsigned.
+#![tactic(auto)]
+
 ghost use Rattle.std.specs.Prelude.{◌≡◌, [], ◌∷◌};
 ghost use Rattle.refusals.specs.Contract.{numbers_at, Tells};
 ghost use Rattle.refusals.specs.Word.{split_of};
@@ -11,7 +13,7 @@ mod telling;
 use telling::{tell_place, tell_rule};
 
 // The kinds of refusal, in the order of their codes. A width's has the number of its rule, from 1.
-#[derive(Drop)]
+#[derive(Clone, Copy)]
 pub enum Refusal {
     TooShort,
     BadDeviceCount,
@@ -25,7 +27,7 @@ pub enum Refusal {
 }
 
 // A word with its sign split off: Up(n) is n, Down(k) is -(k + 1).
-#[derive(Drop)]
+#[derive(Clone, Copy)]
 pub enum Split {
     Up(u32),
     Down(u32),

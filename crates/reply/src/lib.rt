@@ -2,6 +2,8 @@
 // 01, "What leastplan prints"; 02, requests 1 to 3.
 //
 // `printing` puts the lines: that of the held devices, and every other, which is a word and its numbers.
+#![tactic(auto)]
+
 ghost use Rattle.reply.specs.Contract.{Prints, Searched, Replies, RepliesFile};
 
 use dimacs::Filed;

@@ -2,6 +2,8 @@
 //
 // Each is made by a function of its own: where a function that proves something wrote `[0; 16384]` itself, the elements would be spelled
 // out in its every goal.
+#![tactic(auto)]
+
 ghost use Rattle.std.specs.Prelude.{◌≡◌, replicate, pos};
 
 // One byte more than the longest text that is not refused for its length.

@@ -1,5 +1,7 @@
 // Runs every row of the tables of known answers from its typed text, with its own budget and plan room, and prints each answer with
 // the plan room afterwards. What it must print is in tests/rows.py.
+#![tactic(auto)]
+
 mod tables;
 mod telling;
 

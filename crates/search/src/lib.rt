@@ -2,13 +2,15 @@
 //
 // `walk` reads the sheet and walks it. Its best plan goes into a room of our own first, so that the caller's room is written once, and only
 // with a least plan.
+#![tactic(auto)]
+
 ghost use Rattle.search.specs.Contract.{Finds};
 
 use refusals::Refusal;
 use walk::Outcome;
 
 // Cost, devices held and nodes opened; or nodes opened; or the kind of refusal and its place.
-#[derive(Drop)]
+#[derive(Clone, Copy)]
 pub enum Answer {
     Least(u64, u32, u32),
     None(u32),

@@ -10,14 +10,14 @@ use crate::word::{Item, entry_at, number_at};
 use refusals::Refusal;
 
 // A count, or what is wrong with it.
-#[derive(Drop)]
+#[derive(Clone, Copy)]
 pub(crate) enum Count {
     Is(usize),
     Bad(Refusal, usize),
 }
 
 // A part of the sheet that is in order, up to the next word's place; or its first fault.
-#[derive(Drop)]
+#[derive(Clone, Copy)]
 pub(crate) enum Step {
     Next(usize),
     Bad(Refusal, usize),

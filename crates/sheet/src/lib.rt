@@ -2,6 +2,8 @@
 //
 // The sheet is checked first, from left to right, and nothing is written (check). A good sheet is then coded into the arrays that
 // the caller lends (coding). The kinds of refusal, and a word with its sign split off, are those of `refusals`.
+#![tactic(auto)]
+
 ghost use Rattle.sheet.specs.Contract.{Decodes};
 
 mod check;
@@ -11,7 +13,7 @@ mod word;
 use refusals::Refusal;
 
 // What a sheet is read as: a hall, with its numbers of devices and of rules; or a refusal and its place.
-#[derive(Drop)]
+#[derive(Clone, Copy)]
 pub enum Sheet {
     Hall(usize, usize),
     Refused(Refusal, usize),

@@ -7,7 +7,7 @@ ghost use Rattle.sheet.specs.Word.{word_of, item_of, code_in, value_at, code_at}
 use refusals::{Split, split_sign};
 
 // Up(n) is n, Down(k) is -(k + 1), Missing stands where the sheet has no such word.
-#[derive(Drop)]
+#[derive(Clone, Copy)]
 pub(crate) enum Word {
     Up(u32),
     Down(u32),
@@ -15,7 +15,7 @@ pub(crate) enum Word {
 }
 
 // What a word is read as: a number, none in its range, or no word at all.
-#[derive(Drop)]
+#[derive(Clone, Copy)]
 pub(crate) enum Item {
     Is(u32),
     Outside,

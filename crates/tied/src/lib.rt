@@ -2,6 +2,8 @@
 //
 // `walk` reads the sheet and walks it. The plans that tie go into a room of our own, as they are opened; `plans` puts them in order into
 // the caller's room, which is written once, and only where it holds them all.
+#![tactic(auto)]
+
 ghost use Rattle.refusals.specs.Contract.{Tells};
 ghost use Rattle.tied.specs.Contract.{hindrance_numbers, ListsTies};
 
@@ -9,14 +11,14 @@ use refusals::Refusal;
 use walk::Outcome;
 
 // The kinds of refusal: those of a sheet; a room that is too short for the plans, or more than 256 of them.
-#[derive(Drop)]
+#[derive(Clone, Copy)]
 pub enum Hindrance {
     BadSheet(Refusal),
     ShortRoom,
 }
 
 // Cost, devices held, number of plans and nodes opened; or nodes opened; or the kind of refusal and its place.
-#[derive(Drop)]
+#[derive(Clone, Copy)]
 pub enum Tied {
     Plans(u64, u32, u32, u32),
     None(u32),

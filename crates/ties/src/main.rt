@@ -1,4 +1,6 @@
 // A sheet typed on standard input, all plans that tie with its least one on standard output. 02, request 5.
+#![tactic(auto)]
+
 use input::Input;
 use libc::{STDERR_FILENO, STDOUT_FILENO};
 

@@ -3,6 +3,8 @@
 //
 // The text is read twice: `scan` finds the first mistake or the number of words and writes nothing, `fill` writes. So the room
 // is unchanged on every refusal, and no copy of it is needed.
+#![tactic(auto)]
+
 ghost use Rattle.std.specs.Prelude.{◌≡◌};
 ghost use Rattle.typed.specs.Text.{mistake_code, tokens_at};
 ghost use Rattle.typed.specs.Answer.{Reads};
@@ -17,7 +19,7 @@ use token::{Said, said_by};
 use words::{fill, scan};
 
 // The kinds of mistake, in the table's order.
-#[derive(Drop)]
+#[derive(Clone, Copy)]
 pub enum Mistake {
     WrongByte,
     BadNumber,
@@ -26,21 +28,21 @@ pub enum Mistake {
 }
 
 // What a text is read as: so many words; or a mistake and its place.
-#[derive(Drop)]
+#[derive(Clone, Copy)]
 pub enum Reading {
     Words(usize),
     Refused(Mistake, usize),
 }
 
 // Where the next token starts and ends; or there is none.
-#[derive(Drop)]
+#[derive(Clone, Copy)]
 pub enum Span {
     End,
     Token(usize, usize),
 }
 
 // What the next token says: a word, with the places where the token starts and ends; a mistake and its place; or there is none.
-#[derive(Drop)]
+#[derive(Clone, Copy)]
 pub enum Next {
     End,
     Found(i32, usize, usize),

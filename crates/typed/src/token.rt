@@ -7,14 +7,14 @@ use crate::Mistake;
 use crate::bytes::digits_in;
 
 // A signed number as a word, if it is one.
-#[derive(Drop)]
+#[derive(Clone, Copy)]
 enum Signed {
     Fits(i32),
     Beyond,
 }
 
 // What a token says: a word; or a mistake and its place.
-#[derive(Drop)]
+#[derive(Clone, Copy)]
 pub(crate) enum Said {
     Word(i32),
     Mistaken(Mistake, usize),

@@ -4,6 +4,8 @@
 // The sheet is read without the rules that every plan meets (`needed`). Its text is made in a room of our own, which holds the text of any
 // sheet, and is copied where the lent room is long enough: so that room is unchanged on every refusal. lines puts the clauses; totals
 // counts what the first line of the edition before 2022 says.
+#![tactic(auto)]
+
 ghost use Rattle.std.specs.Prelude.{◌+◌, length};
 ghost use Rattle.refusals.specs.Contract.{Tells};
 ghost use Rattle.sheet.specs.Coded.{rules_of};
@@ -24,21 +26,21 @@ use sheet::Sheet;
 use totals::totals_of;
 
 // "Both editions are kept": the one from 2022 on, and the one before.
-#[derive(Drop)]
+#[derive(Clone, Copy)]
 pub enum Edition {
     Since2022,
     Before2022,
 }
 
 // The kinds of refusal: those of a sheet; a text room that is too short.
-#[derive(Drop)]
+#[derive(Clone, Copy)]
 pub enum Obstacle {
     BadSheet(Refusal),
     ShortRoom,
 }
 
 // What was written: a text of so many bytes; or a refusal and its place.
-#[derive(Drop)]
+#[derive(Clone, Copy)]
 pub enum Written {
     Text(usize),
     Refused(Obstacle, usize),

@@ -3,7 +3,7 @@ ghost use Rattle.std.specs.Prelude.{◌≡◌};
 ghost use Rattle.rails.specs.Rails.{if_charged};
 ghost use Rattle.wcnf.specs.Steps.{Costed, Totalled};
 
-#[derive(Drop)]
+#[derive(Clone, Copy)]
 pub(crate) struct Totals {
     pub sum: u64,
     pub charged: u64,

@@ -1,0 +1,12 @@
+use Prim.Native.Nat.{◌+◌, ◌-◌}
+use mathlib.Core.Path.{◌≡◌}
+use lib.Seq.{sets}
+use Rattle.sheet.specs.Word.{numbers_from}
+use Rattle.sheet.proofs.coding.put_costs.Given as goal
+
+abbrev pub invariant-loop-i : goal.invariant-loop-i
+invariant-loop-i l = sets l.costs l.i (numbers_from l.words (1 + l.i) (l.n - l.i)) ≡ sets l.initial.costs 0 (numbers_from l.words 1 l.n)
+
+-- Measure: the costs left.
+abbrev pub decreases-loop-i : goal.decreases-loop-i
+decreases-loop-i l = l.n - l.i
