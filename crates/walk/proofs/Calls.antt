@@ -27,13 +27,13 @@ use Rattle.walk.specs.declared.Outcome.{Outcome}
 use Rattle.walk.specs.declared.Outcome.TheVariants.{Refused}
 
 -- the rules that every plan meets change nothing of what is kept
-keeps_without : (h : Hall) (k : Kept) (ps : List Plan) → keep_all (without h) k ps ≡ keep_all h k ps
+keeps_without : (h : Hall) (ps : List Plan) (k : Kept) → keep_all (without h) k ps ≡ keep_all h k ps
 unfolding keep_all
-keeps_without h k [] = refl
-keeps_without h k (p ∷ ps) = rw (met_without p h.rules) (keeps_without h _ ps)
+keeps_without h [] k = refl
+keeps_without h (p ∷ ps) k = rw (met_without p h.rules) (keeps_without h ps _)
 
 kept_without : (h : Hall) → kept_ties (without h) ≡ kept_ties h
-kept_without h = ap (λ (k : Kept). k.ties) (keeps_without h nothing_kept (walk_hall (without h)).plans) ∙ ap (λ w. (keep_all h nothing_kept w.plans).ties) (walk_without h)
+kept_without h = ap (λ (k : Kept). k.ties) (keeps_without h (walk_hall (without h)).plans nothing_kept) ∙ ap (λ w. (keep_all h nothing_kept w.plans).ties) (walk_without h)
 
 module _ (ws : List ℤ) (room : ℕ) (costs codes starts costs' codes' starts' : List ℕ) (before : List ℕ) (s : Sheet) (d : ReadsNeeded ws room costs codes starts s costs' codes' starts') where
   -- ── a refused sheet ──

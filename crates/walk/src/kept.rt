@@ -10,7 +10,7 @@ ghost use Rattle.walk.specs.Kept.{is_lower, is_equal, IsNoted, Notable, Notes, R
 use crate::meter::Meter;
 
 // The numbers of the best plan so far, which lies in its room where `found` says so.
-#[derive(Drop)]
+#[derive(Clone, Copy)]
 pub(crate) struct BestSoFar {
     pub(crate) found: bool,
     pub(crate) cost: u64,
@@ -18,14 +18,14 @@ pub(crate) struct BestSoFar {
 }
 
 // How many of the plans that tie are asked for, and how many were found: no more is counted than one beyond those asked for.
-#[derive(Drop)]
+#[derive(Clone, Copy)]
 pub(crate) struct Ties {
     pub(crate) most: u32,
     pub(crate) count: u32,
 }
 
 // What a walk carries from node to node.
-#[derive(Drop)]
+#[derive(Clone, Copy)]
 pub(crate) struct State {
     pub(crate) meter: Meter,
     pub(crate) best: BestSoFar,

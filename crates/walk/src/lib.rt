@@ -3,6 +3,8 @@
 // `needed` reads the sheet without the rules that every plan meets, so that no node tests them. meter counts the nodes against the budget;
 // rules finds the first rule that is not met; plan holds and releases devices; kept keeps the best plan and those that tie with it; node
 // opens a node; walk goes from a node to its children; solve makes the rooms, walks from the first node and hands on what was kept.
+#![tactic(auto)]
+
 ghost use Rattle.walk.specs.Contract.{best_found, ties_found, Finds};
 
 mod kept;
@@ -19,7 +21,7 @@ use solve::{solve_best, solve_ties};
 
 // Devices, cost, devices held, plans that were asked for and found, and nodes opened; or nodes opened; or the kind of refusal and its
 // place.
-#[derive(Drop)]
+#[derive(Clone, Copy)]
 pub enum Outcome {
     Best(usize, u64, u32, u32, u32),
     None(u32),

@@ -4,14 +4,14 @@ ghost use Rattle.std.specs.Prelude.{◌≡◌};
 ghost use Rattle.walk.specs.Meter.{admit};
 
 // The budget, and the nodes counted so far.
-#[derive(Drop)]
+#[derive(Clone, Copy)]
 pub(crate) struct Meter {
     pub(crate) budget: u32,
     pub(crate) count: u32,
 }
 
 // Whether a node may be opened, with the meter as it is then.
-#[derive(Drop)]
+#[derive(Clone, Copy)]
 pub(crate) enum Admission {
     Admitted(Meter),
     Stopped(Meter),

@@ -11,7 +11,7 @@ use crate::meter::{Admission, Meter};
 use crate::rules::{Unmet, first_unmet};
 
 // What opening a node comes to: the walk stops; the node has no children; or it branches on the rule of this number.
-#[derive(Drop)]
+#[derive(Clone, Copy)]
 pub(crate) enum Opening {
     Stopped(Meter),
     Leaf(State),

@@ -9,7 +9,7 @@ ghost use Rattle.sheet.specs.Coded.{entry_of};
 ghost use Rattle.walk.specs.Rules.{Tested, FirstUnmet};
 
 // What the test of all rules finds.
-#[derive(Drop)]
+#[derive(Clone, Copy)]
 pub(crate) enum Unmet {
     Rule(usize),
     AllMet,

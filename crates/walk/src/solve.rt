@@ -17,7 +17,7 @@ use crate::walk::{Went, walk_plan};
 
 // How the walk of a hall ended: with a best plan, its cost and held number, how many plans tie, and the nodes opened; or without one; or
 // spent.
-#[derive(Drop)]
+#[derive(Clone, Copy)]
 pub(crate) enum Ended {
     Best(u64, u32, u32, u32),
     None(u32),

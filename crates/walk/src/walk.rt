@@ -11,7 +11,7 @@ use crate::plan::{cost_of, hold, is_free, release};
 use crate::rules::{code_at, start_of};
 
 // How a part of the walk ended.
-#[derive(Drop)]
+#[derive(Clone, Copy)]
 pub(crate) enum Went {
     On(State),
     Spent(Meter),

@@ -1,0 +1,17 @@
+-- `put_costs` meets its contract: the denials of one device after the other (`costs_more`). Assumes nothing.
+use Prim.Native.Nat.{◌-◌}
+use Rattle.printing.proofs.Putting.{left_start, left_length, left_end, left_more}
+use Rattle.wcnf.proofs.WrittenLines.{costs_more, costs_end}
+use Rattle.wcnf.proofs.lines.put_costs.Goals as goal
+
+pub loop-device-init : goal.loop-device-init
+loop-device-init c = search left_start
+
+pub loop-device-preserved : goal.loop-device-preserved
+loop-device-preserved c = search (left_more, costs_more)
+
+pub shape_of-out : goal.shape_of-out
+shape_of-out c = search left_length
+
+pub returns : goal.returns
+returns c = search (left_end, costs_end)
