@@ -1,0 +1,14 @@
+-- `list_plans` meets its contract: a text that is refused (`lists_mistake`), or one whose sheet is listed (`lists_words`). Assumes
+-- nothing.
+use Rattle.typed.proofs.WordsRead.{read_within}
+use Rattle.foreman.proofs.Texts.{lists_mistake, lists_words}
+use Rattle.foreman.proofs.list_plans.Goals as goal
+
+pub slice_bounds-list_sheet-end : goal.slice_bounds-list_sheet-end
+slice_bounds-list_sheet-end c = search read_within
+
+pub returns-in-Refused : goal.returns-in-Refused
+returns-in-Refused c = search lists_mistake
+
+pub returns-in-Words : goal.returns-in-Words
+returns-in-Words c = search lists_words

@@ -1,0 +1,15 @@
+-- `edition_for` meets its contract: case by case (Asked). Assumes nothing.
+use Rattle.handing.proofs.Asked.{none_asked, too_many_lem, old_asked, other_asked}
+use Rattle.handing.proofs.edition_for.Goals as goal
+
+pub returns-then-count-lt2 : goal.returns-then-count-lt2
+returns-then-count-lt2 c = search none_asked
+
+pub returns-then-count-gt2 : goal.returns-then-count-gt2
+returns-then-count-gt2 c = search too_many_lem
+
+pub returns-then-is_old : goal.returns-then-is_old
+returns-then-is_old c = search old_asked
+
+pub returns : goal.returns
+returns c = search other_asked

@@ -1,0 +1,14 @@
+-- `hand_over` meets its contract: a text that is refused (`hands_mistake`), or one whose sheet is handed over (`hands_words`).
+-- Assumes nothing.
+use Rattle.typed.proofs.WordsRead.{read_within}
+use Rattle.handing.proofs.HandedText.{hands_mistake, hands_words}
+use Rattle.handing.proofs.hand_over.Goals as goal
+
+pub slice_bounds-hand_sheet-end : goal.slice_bounds-hand_sheet-end
+slice_bounds-hand_sheet-end c = search read_within
+
+pub returns-in-Refused : goal.returns-in-Refused
+returns-in-Refused c = search hands_mistake
+
+pub returns-in-Words : goal.returns-in-Words
+returns-in-Words c = search hands_words
