@@ -3,7 +3,7 @@
 
 ghost use Rattle.input.specs.Input.{Within};
 
-use libc::STDIN_FILENO;
+use std::io::Read;
 
 // How many bytes came; or the input could not be read.
 #[derive(Clone, Copy)]
@@ -13,23 +13,22 @@ pub enum Input {
 }
 
 // One read, of as much as the input has ready; no bytes at its end.
-fn read_part(room: &mut [u8]) -> Input
+fn read_part<R: Read>(reader: &mut R, room: &mut [u8]) -> Input
     ensures { Within result room.new }
 {
-    let got = libc::read(STDIN_FILENO, room);
-    if got < 0 {
-        return Input::Failed;
+    match reader.read(room) {
+        Ok(got) => Input::Bytes(got),
+        Err(_) => Input::Failed,
     }
-    Input::Bytes(io::count(got, room))
 }
 
 // Reads until the input ends or the room is full. A pipe or a terminal gives its bytes in as many parts as it likes.
-pub fn read_input(room: &mut [u8]) -> Input
+pub fn read_input<R: Read>(reader: &mut R, room: &mut [u8]) -> Input
     ensures { Within result room.new }
 {
     let mut n: usize = 0;
     while n < room.len() {
-        match read_part(&mut room[n..]) {
+        match read_part(reader, &mut room[n..]) {
             Input::Failed => {
                 return Input::Failed;
             }

@@ -2,22 +2,18 @@
 #![tactic(auto)]
 
 use input::Input;
-use libc::{STDERR_FILENO, STDOUT_FILENO};
+use std::io;
+use std::io::{Input as StandardInput, Write};
 
 // Reads, answers and writes, and does nothing else.
-fn main() {
+fn main(rt: HostRuntime) -> io::Result<()> {
     let mut text = rooms::text_room();
-    match input::read_input(&mut text) {
-        Input::Failed => {
-            io::write_all(
-                STDERR_FILENO,
-                b"leastplan: standard input could not be read\n",
-            );
-        }
+    match input::read_input(&mut rt.reader(), &mut text) {
+        Input::Failed => eprintln!(rt; "leastplan: standard input could not be read"),
         Input::Bytes(n) => {
             let mut out = rooms::reply_room();
             let m = reply::answer(&text[0..n], &mut out);
-            io::write_all(STDOUT_FILENO, &out[0..m]);
+            io::writer(&rt).write_all(&out[0..m])
         }
     }
 }

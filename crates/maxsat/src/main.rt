@@ -3,37 +3,45 @@
 
 use handing::Choice;
 use input::Input;
-use libc::{STDERR_FILENO, STDOUT_FILENO};
+use std::env::{Env, FillError};
+use std::io;
+use std::io::{Input as StandardInput, Write};
 use wcnf::Edition;
 
 // Reads, hands over and writes, and does nothing else.
-fn print_text(edition: Edition) {
+fn print_text(rt: &HostRuntime, edition: Edition) -> io::Result<()> {
     let mut text = rooms::text_room();
-    match input::read_input(&mut text) {
-        Input::Failed => {
-            io::write_all(STDERR_FILENO, b"maxsat: standard input could not be read\n");
-        }
+    match input::read_input(&mut rt.reader(), &mut text) {
+        Input::Failed => eprintln!(rt; "maxsat: standard input could not be read"),
         Input::Bytes(n) => {
             let mut out = rooms::wcnf_room();
             let m = handing::hand_over(&text[0..n], edition, &mut out);
-            io::write_all(STDOUT_FILENO, &out[0..m]);
+            io::writer(rt).write_all(&out[0..m])
         }
     }
 }
 
-// The edition is the one from 2022 on, or with the argument `old` the one before. Four bytes show that an argument is longer than `old`.
-fn main() {
+// How many arguments there are, of which one behind the first two counts for all.
+fn count_from_two(rt: &HostRuntime) -> usize {
     let mut word = [0u8; 4];
-    let size = os::arg(1, &mut word);
-    match handing::edition_for(os::arg_count(), &word[0..size]) {
-        Choice::In(edition) => {
-            print_text(edition);
-        }
+    match rt.arg(2, &mut word) {
+        Err(FillError::NotPresent) => 2,
+        _ => 3,
+    }
+}
+
+// The edition is the one from 2022 on, or with the argument `old` the one before. Four bytes show that an argument is longer than `old`.
+fn main(rt: HostRuntime) -> io::Result<()> {
+    let mut word = [0u8; 4];
+    let choice = match rt.arg(1, &mut word) {
+        Ok(size) => handing::edition_for(count_from_two(&rt), &word[0..size]),
+        Err(FillError::TooLong) => handing::edition_for(count_from_two(&rt), &word),
+        Err(FillError::NotPresent) => handing::edition_for(1, b""),
+    };
+    match choice {
+        Choice::In(edition) => print_text(&rt, edition),
         Choice::Unknown => {
-            io::write_all(
-                STDERR_FILENO,
-                b"maxsat: the only argument is old, for the edition before 2022\n",
-            );
+            eprintln!(rt; "maxsat: the only argument is old, for the edition before 2022")
         }
     }
 }
