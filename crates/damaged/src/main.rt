@@ -6,14 +6,17 @@ mod sheets;
 mod telling;
 mod texts;
 
-fn main() {
-    sheets::prefixes();
-    sheets::replacements();
-    sheets::extras();
-    sheets::long_sheets();
-    texts::separators();
-    texts::wrong_bytes();
-    texts::tokens();
-    texts::rooms();
-    texts::long_texts();
+use std::io;
+
+fn main(rt: HostRuntime) -> io::Result<()> {
+    sheets::prefixes(&rt)?;
+    sheets::replacements(&rt)?;
+    sheets::extras(&rt)?;
+    sheets::long_sheets(&rt)?;
+    texts::separators(&rt)?;
+    texts::wrong_bytes(&rt)?;
+    texts::tokens(&rt)?;
+    texts::rooms(&rt)?;
+    texts::long_texts(&rt)?;
+    Ok(())
 }

@@ -1,62 +1,71 @@
 // Document 01's four-device sheet, damaged in every way, and sheets as long as they may be.
 use crate::telling::tell_sheet;
+use std::io;
 
 const FOUR: [i32; 15] = [4, 5, 2, 4, 3, 3, 2, 1, 2, 2, -2, 3, 2, -1, 4];
 
-fn try_sheet(words: &[i32], room: usize) {
+fn try_sheet(rt: &HostRuntime, words: &[i32], room: usize) -> io::Result<()> {
     let mut costs = [0u32; 200];
     let mut codes = [0u16; 16384];
     let mut starts = [0u16; 2001];
-    tell_sheet(sheet::read(words, room, &mut costs, &mut codes, &mut starts));
+    tell_sheet(
+        rt,
+        sheet::read(words, room, &mut costs, &mut codes, &mut starts),
+    )?;
+    Ok(())
 }
 
 // Every prefix, from no words to the whole sheet.
-pub(crate) fn prefixes() {
+pub(crate) fn prefixes(rt: &HostRuntime) -> io::Result<()> {
     let words = FOUR;
     let mut k: usize = 0;
     while k <= 15 {
-        try_sheet(&words[0..k], 200);
+        try_sheet(rt, &words[0..k], 200)?;
         k += 1;
     }
+    Ok(())
 }
 
-fn replaced(i: usize, word: i32) {
+fn replaced(rt: &HostRuntime, i: usize, word: i32) -> io::Result<()> {
     let mut words = FOUR;
     if i < 15 {
         words[i] = word;
-        try_sheet(&words, 200);
+        try_sheet(rt, &words, 200)?;
     }
+    Ok(())
 }
 
 // Each word replaced by each of eight.
-pub(crate) fn replacements() {
+pub(crate) fn replacements(rt: &HostRuntime) -> io::Result<()> {
     let mut i: usize = 0;
     while i < 15 {
-        replaced(i, -2147483648);
-        replaced(i, -1);
-        replaced(i, 0);
-        replaced(i, 33);
-        replaced(i, 201);
-        replaced(i, 2001);
-        replaced(i, 1000000001);
-        replaced(i, 2147483647);
+        replaced(rt, i, -2147483648)?;
+        replaced(rt, i, -1)?;
+        replaced(rt, i, 0)?;
+        replaced(rt, i, 33)?;
+        replaced(rt, i, 201)?;
+        replaced(rt, i, 2001)?;
+        replaced(rt, i, 1000000001)?;
+        replaced(rt, i, 2147483647)?;
         i += 1;
     }
+    Ok(())
 }
 
 // One and many extra words, with room and with too little; too little room; a rule where there is no device.
-pub(crate) fn extras() {
+pub(crate) fn extras(rt: &HostRuntime) -> io::Result<()> {
     let words = [
         4, 5, 2, 4, 3, 3, 2, 1, 2, 2, -2, 3, 2, -1, 4, 0, -7, 2147483647, 5, 5,
     ];
-    try_sheet(&words[0..16], 200);
-    try_sheet(&words, 200);
-    try_sheet(&words[0..16], 3);
-    try_sheet(&words, 0);
-    try_sheet(&words[0..15], 4);
-    try_sheet(&words[0..15], 3);
+    try_sheet(rt, &words[0..16], 200)?;
+    try_sheet(rt, &words, 200)?;
+    try_sheet(rt, &words[0..16], 3)?;
+    try_sheet(rt, &words, 0)?;
+    try_sheet(rt, &words[0..15], 4)?;
+    try_sheet(rt, &words[0..15], 3)?;
     let lone = [0, 1, 1, 1];
-    try_sheet(&lone, 200);
+    try_sheet(rt, &lone, 200)?;
+    Ok(())
 }
 
 // Word k of a sheet of 14 devices and 528 rules of width 30: 16,384 words.
@@ -88,10 +97,11 @@ fn full() -> [i32; 16385] {
 }
 
 // Exactly 16,384 words, one more, and one more whose first is bad.
-pub(crate) fn long_sheets() {
+pub(crate) fn long_sheets(rt: &HostRuntime) -> io::Result<()> {
     let mut words = full();
-    try_sheet(&words[0..16384], 200);
-    try_sheet(&words, 200);
+    try_sheet(rt, &words[0..16384], 200)?;
+    try_sheet(rt, &words, 200)?;
     words[0] = -1;
-    try_sheet(&words, 200);
+    try_sheet(rt, &words, 200)?;
+    Ok(())
 }

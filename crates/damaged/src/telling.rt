@@ -1,72 +1,74 @@
 // How an answer is printed.
-use libc::STDOUT_FILENO;
 use refusals::Refusal;
 use sheet::Sheet;
+use std::io;
 use typed::Reading;
 
-fn number(n: u64) {
-    io::write_all(STDOUT_FILENO, b" ");
-    io::print_decimal(STDOUT_FILENO, n);
+fn number(rt: &HostRuntime, n: u64) -> io::Result<()> {
+    print!(rt; " {n}")
 }
 
-fn word(w: i32) {
+fn word(rt: &HostRuntime, w: i32) -> io::Result<()> {
     if w < 0 {
-        io::write_all(STDOUT_FILENO, b" -");
-        io::print_decimal(STDOUT_FILENO, (-(w + 1)) as u64 + 1);
+        let size = (-(w + 1)) as u64 + 1;
+        print!(rt; " -{size}")?;
     } else {
-        number(w as u64);
+        number(rt, w as u64)?;
     }
+    Ok(())
 }
 
 // The numbers of a refusal: `refused CODE PLACE`, for a width `refused 19 PLACE RULE`.
-fn tell_refusal(kind: Refusal, place: usize) {
+fn tell_refusal(rt: &HostRuntime, kind: Refusal, place: usize) -> io::Result<()> {
     let mut numbers = [0u64; 4];
     let count = refusals::numbers_of(kind, place, &mut numbers);
-    io::write_all(STDOUT_FILENO, b"refused");
-    number(numbers[0]);
-    number(numbers[1]);
+    print!(rt; "refused")?;
+    number(rt, numbers[0])?;
+    number(rt, numbers[1])?;
     if count == 3 {
-        number(numbers[2]);
+        number(rt, numbers[2])?;
     }
+    Ok(())
 }
 
 // `hall DEVICES RULES`, or a refusal.
-pub(crate) fn tell_sheet(answer: Sheet) {
+pub(crate) fn tell_sheet(rt: &HostRuntime, answer: Sheet) -> io::Result<()> {
     match answer {
         Sheet::Hall(n, m) => {
-            io::write_all(STDOUT_FILENO, b"hall");
-            number(n as u64);
-            number(m as u64);
+            print!(rt; "hall")?;
+            number(rt, n as u64)?;
+            number(rt, m as u64)?;
         }
         Sheet::Refused(kind, place) => {
-            tell_refusal(kind, place);
+            tell_refusal(rt, kind, place)?;
         }
     }
-    io::write_all(STDOUT_FILENO, b"\n");
+    print!(rt; "\n")
 }
 
-fn tell_words(room: &[i32]) {
+fn tell_words(rt: &HostRuntime, room: &[i32]) -> io::Result<()> {
     let mut i: usize = 0;
     while i < room.len() {
-        word(room[i]);
+        word(rt, room[i])?;
         i += 1;
     }
+    Ok(())
 }
 
 // `words W` or `refused CODE PLACE`, then the room afterwards.
-pub(crate) fn tell_text(answer: Reading, room: &[i32]) {
+pub(crate) fn tell_text(rt: &HostRuntime, answer: Reading, room: &[i32]) -> io::Result<()> {
     match answer {
         Reading::Words(w) => {
-            io::write_all(STDOUT_FILENO, b"words");
-            number(w as u64);
+            print!(rt; "words")?;
+            number(rt, w as u64)?;
         }
         Reading::Refused(mistake, place) => {
-            io::write_all(STDOUT_FILENO, b"refused");
-            number(typed::code_of(mistake) as u64);
-            number(place as u64);
+            print!(rt; "refused")?;
+            number(rt, typed::code_of(mistake) as u64)?;
+            number(rt, place as u64)?;
         }
     }
-    io::write_all(STDOUT_FILENO, b", room");
-    tell_words(room);
-    io::write_all(STDOUT_FILENO, b"\n");
+    print!(rt; ", room")?;
+    tell_words(rt, room)?;
+    print!(rt; "\n")
 }

@@ -1,88 +1,98 @@
 // Typed texts with every kind of mistake, and rooms of every size. Each room holds sevens before it is lent.
 use crate::telling::tell_text;
+use std::io;
 
-fn with_no_room(text: &[u8]) {
+fn with_no_room(rt: &HostRuntime, text: &[u8]) -> io::Result<()> {
     let mut room = [7i32; 0];
-    tell_text(typed::read(text, &mut room), &room);
+    tell_text(rt, typed::read(text, &mut room), &room)?;
+    Ok(())
 }
 
-fn with_two(text: &[u8]) {
+fn with_two(rt: &HostRuntime, text: &[u8]) -> io::Result<()> {
     let mut room = [7i32; 2];
-    tell_text(typed::read(text, &mut room), &room);
+    tell_text(rt, typed::read(text, &mut room), &room)?;
+    Ok(())
 }
 
-fn with_three(text: &[u8]) {
+fn with_three(rt: &HostRuntime, text: &[u8]) -> io::Result<()> {
     let mut room = [7i32; 3];
-    tell_text(typed::read(text, &mut room), &room);
+    tell_text(rt, typed::read(text, &mut room), &room)?;
+    Ok(())
 }
 
 // No token at all; separators between tokens and at both ends.
-pub(crate) fn separators() {
-    with_two(b"");
-    with_two(b"   ");
-    with_two(&[9, 10, 13, 32]);
-    with_two(&[9, 49, 13, 50, 9]);
-    with_two(&[13, 49, 9, 9, 50, 13]);
-    with_two(&[10, 32, 49, 10, 50, 32, 10]);
+pub(crate) fn separators(rt: &HostRuntime) -> io::Result<()> {
+    with_two(rt, b"")?;
+    with_two(rt, b"   ")?;
+    with_two(rt, &[9, 10, 13, 32])?;
+    with_two(rt, &[9, 49, 13, 50, 9])?;
+    with_two(rt, &[13, 49, 9, 9, 50, 13])?;
+    with_two(rt, &[10, 32, 49, 10, 50, 32, 10])?;
+    Ok(())
 }
 
 // A wrong byte alone, and between two digits.
-fn wrong_byte(b: u8) {
-    with_two(&[b]);
-    with_two(&[52, b, 50]);
+fn wrong_byte(rt: &HostRuntime, b: u8) -> io::Result<()> {
+    with_two(rt, &[b])?;
+    with_two(rt, &[52, b, 50])?;
+    Ok(())
 }
 
-pub(crate) fn wrong_bytes() {
-    wrong_byte(0);
-    wrong_byte(11);
-    wrong_byte(12);
-    wrong_byte(43);
-    wrong_byte(128);
-    wrong_byte(255);
+pub(crate) fn wrong_bytes(rt: &HostRuntime) -> io::Result<()> {
+    wrong_byte(rt, 0)?;
+    wrong_byte(rt, 11)?;
+    wrong_byte(rt, 12)?;
+    wrong_byte(rt, 43)?;
+    wrong_byte(rt, 128)?;
+    wrong_byte(rt, 255)?;
+    Ok(())
 }
 
 // What is and what is not a token.
-pub(crate) fn tokens() {
-    with_two(b"-");
-    with_two(b"4 -");
-    with_two(b"--1");
-    with_two(b"1-");
-    with_two(b"1-1");
-    with_two(b"- 1");
-    with_two(b"-0");
-    with_two(b"007");
-    with_two(b"1234567890");
-    with_two(b"0000000001");
-    with_two(b"12345678901");
-    with_two(b"00000000001");
-    with_two(b"2147483647");
-    with_two(b"2147483648");
-    with_two(b"-2147483648");
-    with_two(b"-2147483649");
-    with_two(b"4 -2147483649");
+pub(crate) fn tokens(rt: &HostRuntime) -> io::Result<()> {
+    with_two(rt, b"-")?;
+    with_two(rt, b"4 -")?;
+    with_two(rt, b"--1")?;
+    with_two(rt, b"1-")?;
+    with_two(rt, b"1-1")?;
+    with_two(rt, b"- 1")?;
+    with_two(rt, b"-0")?;
+    with_two(rt, b"007")?;
+    with_two(rt, b"1234567890")?;
+    with_two(rt, b"0000000001")?;
+    with_two(rt, b"12345678901")?;
+    with_two(rt, b"00000000001")?;
+    with_two(rt, b"2147483647")?;
+    with_two(rt, b"2147483648")?;
+    with_two(rt, b"-2147483648")?;
+    with_two(rt, b"-2147483649")?;
+    with_two(rt, b"4 -2147483649")?;
+    Ok(())
 }
 
 // A room of none, of exactly as many words as tokens, and of one less; mistakes before and behind the end of the room.
-pub(crate) fn rooms() {
-    with_no_room(b"");
-    with_no_room(b"1");
-    with_no_room(b"12345678901");
-    with_no_room(b"12345678901x");
-    with_two(b"5 6");
-    with_three(b"5 6 -8");
-    with_two(b"5 6 -8");
-    with_two(b"5 6 x");
-    with_two(b"5 6 12345678901");
-    with_two(b"5 6 8 x");
-    with_two(b"5 x 8");
+pub(crate) fn rooms(rt: &HostRuntime) -> io::Result<()> {
+    with_no_room(rt, b"")?;
+    with_no_room(rt, b"1")?;
+    with_no_room(rt, b"12345678901")?;
+    with_no_room(rt, b"12345678901x")?;
+    with_two(rt, b"5 6")?;
+    with_three(rt, b"5 6 -8")?;
+    with_two(rt, b"5 6 -8")?;
+    with_two(rt, b"5 6 x")?;
+    with_two(rt, b"5 6 12345678901")?;
+    with_two(rt, b"5 6 8 x")?;
+    with_two(rt, b"5 x 8")?;
+    Ok(())
 }
 
 // A token and blanks, of 60,000 bytes and of one more; 60,001 bytes whose first is wrong.
-pub(crate) fn long_texts() {
+pub(crate) fn long_texts(rt: &HostRuntime) -> io::Result<()> {
     let mut text = [32u8; 60001];
     text[0] = 57;
-    with_two(&text[0..60000]);
-    with_two(&text);
+    with_two(rt, &text[0..60000])?;
+    with_two(rt, &text)?;
     text[0] = 0;
-    with_two(&text);
+    with_two(rt, &text)?;
+    Ok(())
 }

@@ -5,15 +5,18 @@
 mod tables;
 mod telling;
 
-fn main() {
-    tables::starred_small();
-    tables::starred_pairs();
-    tables::starred_large();
-    tables::refused_counts();
-    tables::refused_rules();
-    tables::astray_steps();
-    tables::astray_order();
-    tables::astray_ends();
-    tables::counts();
-    tables::doors();
+use std::io;
+
+fn main(rt: HostRuntime) -> io::Result<()> {
+    tables::starred_small(&rt)?;
+    tables::starred_pairs(&rt)?;
+    tables::starred_large(&rt)?;
+    tables::refused_counts(&rt)?;
+    tables::refused_rules(&rt)?;
+    tables::astray_steps(&rt)?;
+    tables::astray_order(&rt)?;
+    tables::astray_ends(&rt)?;
+    tables::counts(&rt)?;
+    tables::doors(&rt)?;
+    Ok(())
 }
