@@ -1,6 +1,5 @@
 -- `comes_before` meets its contract. The invariant: what the marks from place i on say is what all marks say. The measure is the number of
 -- marks left. Assumes nothing.
-use Prim.Native.Nat.{◌-◌}
 use mathlib.Core.Path.{refl}
 use Rattle.plans.proofs.Marks.{less_end, less_out, less_lower, less_higher, less_on}
 use Rattle.plans.proofs.comes_before.Goals as goal

@@ -1,5 +1,4 @@
 -- `next_behind` meets its contract, plan by plan (Next). Assumes nothing.
-use Prim.Native.Nat.{◌-◌}
 use mathlib.Core.Path.{refl}
 use borrow.Author.Rules.{rules}
 use Rattle.plans.proofs.Next.{next_nothing, next_this, next_other, next_end}

@@ -1,6 +1,5 @@
 -- `same` meets its contract. The invariant: what the marks from place i on say is what all marks say. The measure is the number of marks
 -- left. Assumes nothing.
-use Prim.Native.Nat.{◌-◌}
 use mathlib.Core.Path.{refl}
 use Rattle.plans.proofs.Marks.{same_end, same_differ, same_on}
 use Rattle.plans.proofs.same.Goals as goal

@@ -1,5 +1,4 @@
 -- `stands_in` meets its contract, plan by plan (Standing). Assumes nothing.
-use Prim.Native.Nat.{◌-◌}
 use mathlib.Core.Path.{refl}
 use native.Mathlib.Omega.{arith}
 use borrow.Author.Rules.{rules}

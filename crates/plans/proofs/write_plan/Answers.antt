@@ -1,6 +1,5 @@
 -- `write_plan` meets its contract. The invariant: the plan's marks before place i stand in front of the room. The measure is the number of
 -- marks left. Assumes nothing.
-use Prim.Native.Nat.{◌-◌}
 use mathlib.Core.Path.{refl}
 use borrow.Author.Rules.{rules}
 use Rattle.plans.proofs.Writing.{write_short, write_length, write_place, write_more, write_end}

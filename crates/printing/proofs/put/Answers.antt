@@ -1,5 +1,4 @@
 -- `put` meets its contract: byte by byte, from a place on, as many as have place (Putting). Assumes nothing.
-use Prim.Native.Nat.{◌-◌}
 use Rattle.printing.proofs.Putting.{copy_start, copy_more, copy_end}
 use borrow.Author.Rules.{rules}
 use Rattle.printing.proofs.put.Goals as goal

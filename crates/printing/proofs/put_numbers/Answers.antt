@@ -1,5 +1,4 @@
 -- `put_numbers` meets its contract: each number behind a blank, one after the other (Putting). Assumes nothing.
-use Prim.Native.Nat.{◌-◌}
 use Rattle.printing.proofs.Putting.{left_start, left_length, left_end, left_more, numbers_more, numbers_end}
 use Rattle.printing.proofs.put_numbers.Goals as goal
 

@@ -5,6 +5,8 @@ use Rattle.printing.specs.Lines.{spaced}
 use Rattle.printing.proofs.Putting.{Left}
 use Rattle.printing.proofs.put_numbers.Given as goal
 
+-- Invariant: putting the numbers that are left leaves what putting all of them leaves; putting one takes it off the rest
+-- (`left_more`).
 abbrev pub invariant-loop-i : goal.invariant-loop-i
 invariant-loop-i l = Left (spaced digits_of (drop l.i l.numbers)) (spaced digits_of l.numbers) l.at l.initial.out l.next l.out
 

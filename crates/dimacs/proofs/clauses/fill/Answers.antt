@@ -1,6 +1,5 @@
 -- `fill` meets its contract. The loop keeps `Filling`: the rules written so far stand in front of the room, and what is left of the
 -- clauses is read without a flaw; the measure is what is left of the bytes. Assumes nothing.
-use Prim.Native.Nat.{◌-◌}
 use native.Mathlib.Omega.{arith}
 use borrow.Author.Rules.{rules}
 use mir.Syntax.{w32}

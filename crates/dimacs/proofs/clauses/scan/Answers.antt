@@ -1,6 +1,5 @@
 -- `scan` meets its contract. The loop keeps `Scanning`: what is left of the text, behind the clauses read so far, answers what all of
 -- them answer; the measure is what is left of the bytes. Assumes nothing.
-use Prim.Native.Nat.{◌-◌}
 use native.Mathlib.Omega.{arith}
 use borrow.Author.Rules.{rules}
 use Rattle.dimacs.proofs.Scanning.{scanning_start, scanning_missing, scanning_end, scanning_bad, scanning_word, scanning_flaw, scanning_closes, scanning_enters}

@@ -1,6 +1,5 @@
 -- `put_counts` meets its contract. The loop keeps `PutCounts`: the first i costs stand behind the place for the number of devices; the
 -- measure is the costs left. Assumes nothing.
-use Prim.Native.Nat.{◌-◌}
 use native.Mathlib.Omega.{arith}
 use borrow.Author.Rules.{rules}
 use mir.Syntax.{w32}

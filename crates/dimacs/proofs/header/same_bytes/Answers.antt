@@ -1,6 +1,5 @@
 -- `same_bytes_lem` meets its contract. The loop keeps `AlongSame`: the bytes before i are the same, so that those from i on decide; the
 -- measure is what is left of them. Assumes nothing.
-use Prim.Native.Nat.{◌-◌}
 use Rattle.dimacs.proofs.HeaderWords.{other_length, same_start, same_more, same_other, same_all}
 use Rattle.dimacs.proofs.header.same_bytes.Goals as goal
 

@@ -1,7 +1,6 @@
 -- `lead_end` meets its contract. The loop keeps `AlongLead`: the bytes passed and those that are still to be passed are all bytes before
 -- the first token; the measure is what is left of the text. Assumes nothing.
 use mathlib.Core.Path.{◌≡◌, refl}
-use Prim.Native.Nat.{◌-◌}
 use Rattle.dimacs.specs.declared.lead.Spot.{Spot}
 use Rattle.dimacs.specs.declared.lead.Spot.TheVariants.{LineStart, Blank, Comment, TokenStart}
 use Rattle.dimacs.proofs.LeadEnds.{lead_start, GoesOn, line_start, blank, comment, lead_over, lead_token, lead_more}

@@ -1,6 +1,5 @@
 -- `leave_out` meets its contract. The loop's invariant: storing what is left of the rules from r on leaves what storing all that
 -- stay leaves, and what was not reached lies as it did (`Leaving`); its measure is the number of rules left. Assumes nothing.
-use Prim.Native.Nat.{◌-◌}
 use mathlib.Core.Path.{refl}
 use native.Mathlib.Omega.{arith}
 use Rattle.needed.proofs.Leaving.{start_short, none_done, all_done, next_short, testable, movable, left_one, moved_short, stays_one}

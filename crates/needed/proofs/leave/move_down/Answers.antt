@@ -1,6 +1,5 @@
 -- `move_down` meets its contract. The loop's invariant: storing the codes that are left leaves what storing all of them leaves, and
 -- from the next one on all is as it was (`Moving`); its measure is the number of codes left. Assumes nothing.
-use Prim.Native.Nat.{◌-◌}
 use Rattle.needed.proofs.Moving.{no_move, none_moved, moved_one, all_moved}
 use Rattle.needed.proofs.leave.move_down.Goals as goal
 

@@ -1,6 +1,5 @@
 -- `names_both` meets its contract. The loop's invariant: the codes with this rule's stamp are those seen so far, and no two of them are
 -- opposite (`Stamped`); its measure is the number of entries left. Assumes nothing.
-use Prim.Native.Nat.{◌-◌}
 use native.Mathlib.Omega.{arith}
 use Rattle.needed.proofs.Stamping.{none_seen, all_seen, opposite_seen, seen_one}
 use Rattle.needed.proofs.leave.names_both.Goals as goal

@@ -1,5 +1,4 @@
 -- `put_devices` meets its contract: the entries of the held devices, one after the other (Devices, `Left`). Assumes nothing.
-use Prim.Native.Nat.{◌-◌}
 use Rattle.printing.proofs.Putting.{left_start, left_length, left_end, left_more}
 use Rattle.printing.proofs.Devices.{devices_more, devices_end}
 use Rattle.printing.proofs.held.put_devices.Goals as goal

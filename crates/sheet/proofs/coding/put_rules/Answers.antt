@@ -1,5 +1,4 @@
 -- `put_rules` meets its contract: rule by rule its start and its codes, then the end of the last (Putting). Assumes nothing.
-use Prim.Native.Nat.{◌-◌}
 use Rattle.sheet.proofs.Putting.{putting_start, putting_small, codes_long, start_put, start_room, putting_room, putting_more, putting_end}
 use borrow.Author.Rules.{rules}
 use Rattle.sheet.proofs.coding.put_rules.Goals as goal

@@ -1,9 +1,7 @@
 -- `typed::bytes::digits_in` meets its contract. The loop goes along the run; the measure is what is left of the bytes.
 -- Assumes nothing.
 use mathlib.Core.Path.{refl, sym, ◌∙◌}
-use Prim.Native.Nat.{◌-◌}
 use borrow.Author.Rules.{rules}
-use Rattle.typed.specs.Text.{is_digit}
 use Rattle.typed.proofs.Fronts.{along_more, along_stop, along_end, from_zero}
 use Rattle.typed.proofs.bytes.digits_in.Goals as goal
 

@@ -1,8 +1,6 @@
 -- `typed::bytes::separators_end` meets its contract. The loop goes along the run; the measure is what is left of the bytes.
 -- Assumes nothing.
 use mathlib.Core.Path.{refl, sym, ◌∙◌}
-use Prim.Native.Nat.{◌-◌}
-use Rattle.typed.specs.Text.{is_separator}
 use Rattle.typed.proofs.Fronts.{along_more, along_stop, along_end}
 use Rattle.typed.proofs.bytes.separators_end.Goals as goal
 

@@ -1,7 +1,6 @@
 -- `typed::bytes::token_end` meets its contract. The loop goes along the run; the measure is what is left of the bytes.
 -- Assumes nothing.
 use mathlib.Core.Path.{refl, sym, ◌∙◌, ap}
-use Prim.Native.Nat.{◌-◌}
 use mathlib.Core.Bool.{not}
 use Rattle.typed.proofs.Fronts.{along_more, along_stop, along_end}
 use Rattle.typed.proofs.bytes.token_end.Goals as goal

@@ -1,6 +1,5 @@
 -- `typed::token::value_of` meets its contract. The loop keeps `Summed`: n and the digits left say what all of them say, and n has
 -- at most as many digits as were read; the measure is what is left of the digits. Assumes nothing.
-use Prim.Native.Nat.{◌-◌}
 use native.Mathlib.Omega.{arith}
 use Rattle.typed.proofs.Decimals.{summed_none, byte_range, bounded, summed_more, summed_all}
 use Rattle.typed.proofs.token.value_of.Goals as goal

@@ -1,6 +1,5 @@
 -- `typed::words::fill` meets its contract. The loop keeps `Filling`: the words written, with those left, are all words of the text;
 -- the measure is what is left of the bytes. Assumes nothing.
-use Prim.Native.Nat.{◌-◌}
 use native.Mathlib.Omega.{arith}
 use borrow.Author.Rules.{rules}
 use Rattle.typed.proofs.Filling.{filling_start, filling_end, filling_never, filling_word, filling_room, filling_more}

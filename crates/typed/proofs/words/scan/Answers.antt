@@ -1,6 +1,5 @@
 -- `typed::words::scan` meets its contract. The loop keeps `Counting`: what is left of the text, with the words counted, answers what
 -- the whole text answers; the measure is what is left of the bytes. Assumes nothing.
-use Prim.Native.Nat.{◌-◌}
 use native.Mathlib.Omega.{arith}
 use Rattle.typed.proofs.Counting.{counting_start, counting_end, counting_bad, counting_word, counting_full, counting_more}
 use Rattle.typed.proofs.words.scan.Goals as goal

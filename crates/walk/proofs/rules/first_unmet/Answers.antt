@@ -1,7 +1,6 @@
 -- `first_unmet` meets its contract. The outer loop's invariant: every rule before r is met, and `end` is where rule r starts (`Passed`);
 -- its measure is the number of rules left. The inner loop's: no entry of rule r before i is held (`Untested`); its measure is the
 -- number of entries left. Assumes nothing.
-use Prim.Native.Nat.{ℕ, ◌<◌, ◌≤◌}
 use mathlib.Core.Path.{refl, sym, ◌∙◌}
 use native.Mathlib.Omega.{arith}
 use Rattle.sheet.proofs.Codes.{ends_within, named_at}

@@ -25,9 +25,10 @@ walk_entries-overflow_add-held t c = let few = steps.few_held c.loop-left.invari
 
 pub walk_entries-walk_plan-went-requires : goal.walk_entries-walk_plan-went-requires
 walk_entries-walk_plan-went-requires t c =
-    let loose = sym c.is_free.ensures ∙ c.if-not-is_free.false in
-    (steps.falls_child _ _ _ _ _ _ c.loop-left.invariant.as_was loose c.hold.ensures c.decreases,
-    steps.child_node c.loop-left.invariant.here.node _ loose c.hold.ensures c.cost_of.ensures)
+    let loose = sym c.is_free.ensures ∙ c.if-not-is_free.false in (
+      steps.falls_child _ _ _ _ _ _ c.loop-left.invariant.as_was loose c.hold.ensures c.decreases,
+      steps.child_node c.loop-left.invariant.here.node _ loose c.hold.ensures c.cost_of.ensures,
+    )
 
 pub walk_entries-returns-in-Spent : goal.walk_entries-returns-in-Spent
 walk_entries-returns-in-Spent t c =
@@ -60,9 +61,9 @@ walk_entries-returns t c = steps.walked_all c.loop-left.invariant c.loop-left-te
 -- ── the answers of `walk_plan` ──
 pub walk_plan-walk_entries-requires : goal.walk_plan-walk_entries-requires
 walk_plan-walk_entries-requires t c = (
-      search steps.branch_falls,
-      steps.branch_entries c.requires c.open_node.ensures _ _ c.in-Branch.is c.start_of-at.ensures c.start_of-end.ensures c.open_node.auto.kept,
-    )
+  search steps.branch_falls,
+  steps.branch_entries c.requires c.open_node.ensures _ _ c.in-Branch.is c.start_of-at.ensures c.start_of-end.ensures c.open_node.auto.kept,
+)
 
 pub walk_plan-returns-in-Stopped : goal.walk_plan-returns-in-Stopped
 walk_plan-returns-in-Stopped t c = search steps.walked_stopped

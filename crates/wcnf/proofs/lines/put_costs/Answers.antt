@@ -1,5 +1,4 @@
 -- `put_costs` meets its contract: the denials of one device after the other (`costs_more`). Assumes nothing.
-use Prim.Native.Nat.{◌-◌}
 use Rattle.printing.proofs.Putting.{left_start, left_length, left_end, left_more}
 use Rattle.wcnf.proofs.WrittenLines.{costs_more, costs_end}
 use Rattle.wcnf.proofs.lines.put_costs.Goals as goal

@@ -6,6 +6,8 @@ use Rattle.rails.specs.Rails.{denials_from}
 use Rattle.wcnf.specs.Wcnf.{clause_lines}
 use Rattle.wcnf.proofs.lines.put_costs.Given as goal
 
+-- Invariant: putting the lines that are left leaves what putting all of them leaves; putting a device's takes them off the rest
+-- (`left_more`).
 abbrev pub invariant-loop-device : goal.invariant-loop-device
 invariant-loop-device l = Left (clause_lines [] (denials_from l.device (drop l.device l.costs))) (clause_lines [] (denials_from 0 l.costs)) l.at l.initial.out l.next l.out
 

@@ -1,5 +1,4 @@
 -- `put_entries` meets its contract: one entry after the other, by its code (`entry_put`). Assumes nothing.
-use Prim.Native.Nat.{◌-◌}
 use Rattle.printing.proofs.Putting.{left_start, left_length, left_end}
 use Rattle.wcnf.proofs.WrittenLines.{entry_put, entries_end}
 use borrow.Author.Rules.{rules}

@@ -5,6 +5,7 @@ use Rattle.printing.proofs.Putting.{Left}
 use Rattle.rails.specs.Rails.{in_variables}
 use Rattle.wcnf.proofs.lines.put_entries.Given as goal
 
+-- Invariant: putting the entries that are left leaves what putting all of them leaves; putting one takes it off the rest.
 abbrev pub invariant-loop-i : goal.invariant-loop-i
 invariant-loop-i l = Left (printed_entries (in_variables (entries_of l.codes l.i (l.end - l.i)))) (printed_entries (in_variables (entries_of l.codes l.from (l.end - l.from)))) l.at l.initial.out l.next l.out × (l.i ≤ l.end)
 

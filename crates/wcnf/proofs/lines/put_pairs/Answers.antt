@@ -1,5 +1,4 @@
 -- `put_pairs` meets its contract: the pairs of one device after the other (`pairs_more`). Assumes nothing.
-use Prim.Native.Nat.{◌-◌}
 use Rattle.printing.proofs.Putting.{left_start, left_length, left_end, left_more}
 use Rattle.wcnf.proofs.WrittenLines.{pairs_more, pairs_end}
 use Rattle.wcnf.proofs.lines.put_pairs.Goals as goal

@@ -1,5 +1,4 @@
 -- `put_rules` meets its contract: one rule after the other (WrittenLines). Assumes nothing.
-use Prim.Native.Nat.{◌-◌}
 use Rattle.wcnf.proofs.WrittenLines.{ruling_none, ruling_length, start_there, end_there, rule_there, ruling_more, ruling_all}
 use Rattle.wcnf.proofs.lines.put_rules.Goals as goal
 

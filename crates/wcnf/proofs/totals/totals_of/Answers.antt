@@ -1,5 +1,4 @@
 -- `totals_of` meets its contract: cost by cost (TotalsKept). Assumes nothing.
-use Prim.Native.Nat.{◌-◌}
 use Rattle.wcnf.proofs.TotalsKept.{adding_none, cost_small, sum_small, count_small, adding_more, adding_all}
 use Rattle.wcnf.proofs.totals.totals_of.Goals as goal
 
