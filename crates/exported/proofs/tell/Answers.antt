@@ -1,5 +1,4 @@
 -- `tell` meets its contract: number by number, from the front (Told). Assumes nothing.
-use Prim.Native.Nat.{◌-◌}
 use Rattle.exported.proofs.Told.{tell_room, tell_more, tell_end, tell_long}
 use Rattle.exported.proofs.tell.Goals as goal
 
