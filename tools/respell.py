@@ -13,9 +13,12 @@ import re
 import sys
 
 SIGNATURE = re.compile(r"^(\s*)(?:abbrev |unfoldable )?(?:pub )?(?:abbrev |unfoldable )?([^\s(){}:;]+) : ")
+SEVERAL = re.compile(r"^\s+([^\s(){}:;]+(?: [^\s(){}:;]+)+) : ")
 TOKEN = re.compile(r"[^\s(){}\[\];,.:`\"|\\]+")
+# names of variables that stand in the lines of declarations
+VARIABLES = "bestPlan bestPlan' hardWeight".split()
 # laws that would have the name of a definition, or of another law: by their spelling before this script
-LEM = "behind-p best-found clause-line comment-line devices-on end-of from-lead held-from in-clause in-front judged-by keep_all lead-length line-end no-p not-both number-in number-of one_more other-p refused-line room-for rule-count rule-true same_bytes sheet-of soft-by stands-in ties-found tokens-behind too_many".split()
+LEM = "behind-p best-found clause-line comment-line devices-on end-of from-lead held-from in-clause in-front judged-by keep_all lead-length line-end no-p not-both number-in number-of one_more other-p refused-line room-for rule-count rule-true same_bytes sheet-of small-room soft-by stands-in ties-found tokens-behind too_long too_many too_short".split()
 
 
 def files(root, endings):
@@ -50,6 +53,9 @@ def own_names():
             m = SIGNATURE.match(line)
             if m:
                 names.add(m.group(2))
+            m = SEVERAL.match(line)
+            if m and not line.lstrip().startswith("let "):
+                names.update(m.group(1).split())
     return names
 
 
@@ -77,7 +83,7 @@ def commented(text, table):
 
 def main():
     names = own_names()
-    table = {n: snake(n) for n in names}
+    table = {n: snake(n) for n in [*names, *VARIABLES]}
     table.update({n: snake(n) + "_lem" for n in LEM if n in names})
     table = {a: b for a, b in table.items() if a != b}
     meets = collections.defaultdict(list)

@@ -1,6 +1,6 @@
 -- The whole reading, as the code puts it together.
 --
--- In order: a text that is too long (`too_long`); a header that is missing (`header_missing`), counts
+-- In order: a text that is too long (`too_long_lem`); a header that is missing (`header_missing`), counts
 -- that are refused (`counts_refused`), clauses that are refused (`clauses_refused`), and a file that is filed (`scan_fits`,
 -- `counts_fit`, `fill_fits`, `filed`). Assumes nothing.
 use mathlib.Core.Path.{◌≡◌, refl, sym, ◌∙◌, ap, subst}
@@ -39,8 +39,8 @@ limit_within room = (limit_holds room (limit_of room)).0 (omega arith)
 refused_kept : {text : List ℕ} {before : List ℤ} {f : Flaw} {place : ℕ} → read_file text (length before) ≡ refused f place → Files text before (Refused f place) before
 refused_kept {before = before} e = files_so (sym (ap filed_of e)) (sym (ap (λ (x : Parsed). room_after x before) e))
 
-pub too_long : {text : List ℕ} {before : List ℤ} → 60000 < length text → Files text before (Refused (Text TooLong) 60000) before
-too_long {text} {before} h = refused_kept (over_long text (length before) h)
+pub too_long_lem : {text : List ℕ} {before : List ℤ} → 60000 < length text → Files text before (Refused (Text TooLong) 60000) before
+too_long_lem {text} {before} h = refused_kept (over_long text (length before) h)
 
 module _ (text : List ℕ) (before : List ℤ) (short : length text ≤ 60000) (limit : ℕ) (l : limit ≡ limit_of (length before)) (r : Header) (h : HeaderIs text r) where
   pub header_missing : {place : ℕ} → r ≡ Missing place → Files text before (Refused NoHeader place) before

@@ -16,7 +16,7 @@ use lib.IntN.{ℤ, pos, negsuc}
 use lib.Dec.{leb, ltb}
 use borrow.Author.Tests.{le-leb}
 use Rattle.hall.specs.Hall.{Entry}
-use Rattle.hall.specs.Reading.{Fault, tooShort, badDeviceCount, badRuleCount, bad_width, Read, bad, got, Reader, then, ◌>>=◌, as_read, at_word, word, only_if, up_to, as_entry, times, cost, entry, rule, all_rules, hall}
+use Rattle.hall.specs.Reading.{Fault, too_short, bad_device_count, bad_rule_count, bad_width, Read, bad, got, Reader, then, ◌>>=◌, as_read, at_word, word, only_if, up_to, as_entry, times, cost, entry, rule, all_rules, hall}
 use Rattle.hall.specs.Due.{Due, device_count, device_cost, rule_count, rule_width, rule_entry, nothing_more, costs_due, rules_due, entries_due, next, due_after, due, from_zero_to, in_range_of, fault_for, right_at, RightBefore, FirstWrong, EndsTooSoon}
 use Rattle.lists.proofs.Cases.{both, Tri, below, level, above, tri}
 
@@ -45,7 +45,7 @@ pub record RightUpTo (ws : List ℤ) (i : ℕ) (d : Due) : Type 0 where
   pub state : due (take i ws) ≡ d
 
 abbrev pub Stopped : List ℤ → Fault → ℕ → Type 0
-Stopped ws f i = (FirstWrong f i ws × (due (take i ws) ≢ nothing_more)) ⊎ ((f ≡ tooShort) × EndsTooSoon i ws)
+Stopped ws f i = (FirstWrong f i ws × (due (take i ws) ≢ nothing_more)) ⊎ ((f ≡ too_short) × EndsTooSoon i ws)
 
 abbrev pub Follows : {A : Type 0} → List ℤ → (A → Due) → Read A → Type 0
 Follows ws k (bad f i) = Stopped ws f i
@@ -163,11 +163,11 @@ rules_track n m =
 pub hall_tracks : Tracks hall device_count (λ h. nothing_more)
 unfolding hall
 hall_tracks =
-    then_tracks (word badDeviceCount (up_to 200)) _ device_count (λ n. costs_due n n) (λ h. nothing_more)
+    then_tracks (word bad_device_count (up_to 200)) _ device_count (λ n. costs_due n n) (λ h. nothing_more)
     (number_tracks 200 device_count (λ n. costs_due n n) refl (λ w. refl) (λ v. refl))
     λ n. then_tracks (times n (λ left. cost)) _ (costs_due n n) (λ cs. rule_count n) (λ h. nothing_more)
     (times_tracks (λ left. cost) (costs_due n) n (λ l h. number_tracks 1000000000 (device_cost n l) (λ c. costs_due n l) refl (λ w. refl) (λ v. refl)))
-    λ cs. then_tracks (word badRuleCount (up_to 2000)) _ (rule_count n) (rules_due n 1) (λ h. nothing_more)
+    λ cs. then_tracks (word bad_rule_count (up_to 2000)) _ (rule_count n) (rules_due n 1) (λ h. nothing_more)
     (number_tracks 2000 (rule_count n) (rules_due n 1) refl (λ w. refl) (λ v. refl))
     λ m. then_tracks (all_rules n m) _ (rules_due n 1 m) (λ rs. nothing_more) (λ h. nothing_more)
     (rules_track n m)

@@ -22,7 +22,7 @@ use Rattle.hall.specs.Settings.{Satisfies}
 use Rattle.hall.specs.Walk.{walk_hall}
 use Rattle.hall.specs.Ranges.{RuleInRange, SheetOf}
 use Rattle.hall.specs.Bound.{bound_of}
-use Rattle.hall.specs.Reading.{Fault, smallRoom, Read, bad, got, decode}
+use Rattle.hall.specs.Reading.{Fault, small_room, Read, bad, got, decode}
 use Rattle.hall.specs.Due.{Reason}
 use Rattle.hall.specs.Ties.{equal_to, joined}
 use Rattle.hall.specs.Listing.{Listing, listed, none, spent, refused, short, fits, listed_by, finished_list, list_within, list_read, listing, AllTies, Lists}
@@ -59,7 +59,7 @@ module _ (ws : List ℤ) (budget room : ℕ) (a : Listing) (claim : Lists ws bud
       go (got h j) u e = absurd (n h (decoded ws 200 h j u))
 
   -- 16 is never given: no hall of a sheet has more than 200 devices
-  pub never_small_room : (place : ℕ) → a ≢ refused smallRoom place
+  pub never_small_room : (place : ℕ) → a ≢ refused small_room place
   never_small_room place e =
       let r = subst (Lists ws budget room) e claim in
       let n = r.ranges.devices in

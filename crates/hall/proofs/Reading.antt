@@ -17,7 +17,7 @@ use borrow.Author.Tests.{leb-true, ltb-true}
 use Rattle.hall.specs.Hall.{Entry, at1, at0, device, Rule}
 use Rattle.lists.specs.Lists.{Each}
 use Rattle.hall.specs.Ranges.{RuleInRange, HallInRange, words_of, number_words, entry_words, rule_words, words}
-use Rattle.hall.specs.Reading.{Fault, badDeviceCount, badCost, badEntry, badRuleCount, bad_width, Read, bad, got, Reader, then, ◌>>=◌, yield, as_read, at_word, word, only_if, up_to, as_entry, times, cost, entry, rule, all_rules, hall}
+use Rattle.hall.specs.Reading.{Fault, bad_device_count, bad_cost, bad_entry, bad_rule_count, bad_width, Read, bad, got, Reader, then, ◌>>=◌, yield, as_read, at_word, word, only_if, up_to, as_entry, times, cost, entry, rule, all_rules, hall}
 
 -- ── places ──
 pub word_drop : (ws : List ℤ) (i : ℕ) (w : ℤ) → get_elem? ws i ≡ some w → drop i ws ≡ w ∷ drop (suc i) ws
@@ -132,14 +132,14 @@ pub count_takes : (c : Fault) (most : ℕ) → Takes (word c (up_to most)) numbe
 count_takes c most = word_takes c (up_to most) number_words (λ n. n ≤ most) (up_to_values most)
 
 pub costs_take : (n : ℕ) → Takes (times n (λ left. cost)) (words_of number_words) (λ l. (length l ≡ n) × Each (λ c. c ≤ 1000000000) l)
-costs_take n = times_takes (λ left. cost) number_words (λ c. c ≤ 1000000000) (λ left. count_takes badCost 1000000000) n
+costs_take n = times_takes (λ left. cost) number_words (λ c. c ≤ 1000000000) (λ left. count_takes bad_cost 1000000000) n
 
 pub rule_takes : (n number : ℕ) → Takes (rule n number) rule_words (RuleInRange n)
 unfolding rule rule_words
 rule_takes n number ws i l j e =
     let x = reads (word (bad_width number) (up_to 32)) (λ w. times w (λ left. entry n)) ws i l j e in
     let t = count_takes (bad_width number) 32 ws i x.value x.place x.one in
-    let u = times_takes (λ left. entry n) entry_words (λ e. device e < n) (λ left. word_takes badEntry (as_entry n) entry_words (λ e. device e < n) (entry_values n)) x.value ws x.place l j x.two in
+    let u = times_takes (λ left. entry n) entry_words (λ e. device e < n) (λ left. word_takes bad_entry (as_entry n) entry_words (λ e. device e < n) (entry_values n)) x.value ws x.place l j x.two in
     let n1 = t.next in
     let n2 = u.next in
     let size = u.good.0 in
@@ -176,12 +176,12 @@ hall_made ws cs rs n m i j₁ j₂ j₃ j a b c d =
 pub hall_takes : Takes hall words HallInRange
 unfolding hall
 hall_takes ws i h j e =
-    let w = reads (word badDeviceCount (up_to 200)) _ ws i h j e in
+    let w = reads (word bad_device_count (up_to 200)) _ ws i h j e in
     let x = reads (times w.value (λ left. cost)) _ ws w.place h j w.two in
-    let y = reads (word badRuleCount (up_to 2000)) _ ws x.place h j x.two in
+    let y = reads (word bad_rule_count (up_to 2000)) _ ws x.place h j x.two in
     let z = reads (all_rules w.value y.value) _ ws y.place h j y.two in
     moved words HallInRange ws i z.two (hall_made ws x.value z.value w.value y.value i w.place x.place y.place z.place
-    (count_takes badDeviceCount 200 ws i w.value w.place w.one)
+    (count_takes bad_device_count 200 ws i w.value w.place w.one)
     (costs_take w.value ws w.place x.value x.place x.one)
-    (count_takes badRuleCount 2000 ws x.place y.value y.place y.one)
+    (count_takes bad_rule_count 2000 ws x.place y.value y.place y.one)
     (rules_take w.value y.value ws y.place z.value z.place z.one))

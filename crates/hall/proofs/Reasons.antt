@@ -16,7 +16,7 @@ use lib.Dec.{ltb}
 use borrow.Author.Tests.{ltb-true, ltb-false, lt-ltb, le-ltb}
 use Rattle.hall.specs.Hall.{Hall}
 use Rattle.hall.specs.Ranges.{HallInRange, words, SheetOf}
-use Rattle.hall.specs.Reading.{Fault, tooShort, badDeviceCount, badCost, badEntry, extraWords, smallRoom, tooLong, badRuleCount, bad_width, Read, bad, got, then, hall, ended_by, ended, room_by, has_room, decode_by, decode}
+use Rattle.hall.specs.Reading.{Fault, too_short, bad_device_count, bad_cost, bad_entry, extra_words, small_room, too_long, bad_rule_count, bad_width, Read, bad, got, then, hall, ended_by, ended, room_by, has_room, decode_by, decode}
 use Rattle.hall.specs.Due.{Due, device_count, device_cost, rule_count, rule_width, rule_entry, nothing_more, due_after, due, fault_for, FirstWrong, WordsAfter, Reason}
 use Rattle.hall.proofs.Reading.{hall_takes}
 use Rattle.hall.proofs.Sheets.{hall_gives, accepted}
@@ -39,7 +39,7 @@ stopped_reason ws room f i (inl (w, n)) = subst (λ (f : Fault). Reason f i ws r
     go nothing_more e = absurd (n e)
 
 -- a first wrong word of a kind other than 15
-reason_stopped : (ws : List ℤ) (f : Fault) (i : ℕ) → FirstWrong f i ws → f ≢ extraWords → Stopped ws f i
+reason_stopped : (ws : List ℤ) (f : Fault) (i : ℕ) → FirstWrong f i ws → f ≢ extra_words → Stopped ws f i
 reason_stopped ws f i w n = inl (w, λ e. n (sym w.kind ∙ ap fault_for e))
 
 -- ── the verdict on a sheet ──
@@ -110,18 +110,18 @@ module _ (ws : List ℤ) (room : ℕ) where
   pub verdict_only : (x : Read Hall) → Verdict ws room x → decode room ws ≡ x
   unfolding decode decode_by
   verdict_only (got h j) v = accepted room ws h v.0 ∙ rw v.1
-  verdict_only (bad tooShort i) v = refuse tooShort i v.short (inr (refl, v))
-  verdict_only (bad badDeviceCount i) v = refuse badDeviceCount i v.short (reason_stopped ws badDeviceCount i v (λ e. let z : ◌≡◌ {A = ℕ} 0 1 = cc in omega arith))
-  verdict_only (bad badCost i) v = refuse badCost i v.short (reason_stopped ws badCost i v (λ e. let z : ◌≡◌ {A = ℕ} 0 1 = cc in omega arith))
-  verdict_only (bad badEntry i) v = refuse badEntry i v.short (reason_stopped ws badEntry i v (λ e. let z : ◌≡◌ {A = ℕ} 0 1 = cc in omega arith))
-  verdict_only (bad extraWords i) v =
+  verdict_only (bad too_short i) v = refuse too_short i v.short (inr (refl, v))
+  verdict_only (bad bad_device_count i) v = refuse bad_device_count i v.short (reason_stopped ws bad_device_count i v (λ e. let z : ◌≡◌ {A = ℕ} 0 1 = cc in omega arith))
+  verdict_only (bad bad_cost i) v = refuse bad_cost i v.short (reason_stopped ws bad_cost i v (λ e. let z : ◌≡◌ {A = ℕ} 0 1 = cc in omega arith))
+  verdict_only (bad bad_entry i) v = refuse bad_entry i v.short (reason_stopped ws bad_entry i v (λ e. let z : ◌≡◌ {A = ℕ} 0 1 = cc in omega arith))
+  verdict_only (bad extra_words i) v =
       let n = length (words v.hall) in
       let l : n < length ws = rw v.sheet (rw length-append (omega arith)) in
       rw (le-ltb 16384 (length ws) v.short, hall_front v.hall (v.extra ∷ v.rest) v.ranges v.sheet, lt-ltb n (length ws) l, v.place)
-  verdict_only (bad smallRoom i) v =
+  verdict_only (bad small_room i) v =
       let n = length (words v.hall) in
       let l : length ws ≤ n = rw v.sheet (omega arith) in
       rw (le-ltb 16384 (length ws) v.short, hall_front v.hall [] v.ranges (v.sheet ∙ sym (append-nil (words v.hall))), le-ltb n (length ws) l, lt-ltb room (length v.hall.costs) v.small, v.place)
-  verdict_only (bad tooLong i) v = rw (lt-ltb 16384 (length ws) v.long, v.place)
-  verdict_only (bad badRuleCount i) v = refuse badRuleCount i v.short (reason_stopped ws badRuleCount i v (λ e. let z : ◌≡◌ {A = ℕ} 0 1 = cc in omega arith))
+  verdict_only (bad too_long i) v = rw (lt-ltb 16384 (length ws) v.long, v.place)
+  verdict_only (bad bad_rule_count i) v = refuse bad_rule_count i v.short (reason_stopped ws bad_rule_count i v (λ e. let z : ◌≡◌ {A = ℕ} 0 1 = cc in omega arith))
   verdict_only (bad (bad_width rule) i) v = refuse (bad_width rule) i v.short (reason_stopped ws (bad_width rule) i v (λ e. let z : ◌≡◌ {A = ℕ} 0 1 = cc in omega arith))

@@ -7,18 +7,18 @@ use mathlib.Core.List.{List}
 use Prim.Native.Nat.{ℕ, zero, suc, ◌-◌, ◌≤◌}
 use native.Mathlib.Omega.{arith}
 use lib.ListN.{get_or}
-use Rattle.hall.specs.Reading.{Fault, tooShort, badDeviceCount, badCost, badEntry, extraWords, smallRoom, tooLong, badRuleCount, bad_width, refusal_numbers}
+use Rattle.hall.specs.Reading.{Fault, too_short, bad_device_count, bad_cost, bad_entry, extra_words, small_room, too_long, bad_rule_count, bad_width, refusal_numbers}
 
 -- the kind that numbers tell: by their code, counted from 11, and by the third of them
 pub fault_at : ℕ → List ℕ → Fault
-fault_at zero l = tooShort
-fault_at (suc zero) l = badDeviceCount
-fault_at (suc (suc zero)) l = badCost
-fault_at (suc (suc (suc zero))) l = badEntry
-fault_at (suc (suc (suc (suc zero)))) l = extraWords
-fault_at (suc (suc (suc (suc (suc zero))))) l = smallRoom
-fault_at (suc (suc (suc (suc (suc (suc zero)))))) l = tooLong
-fault_at (suc (suc (suc (suc (suc (suc (suc zero))))))) l = badRuleCount
+fault_at zero l = too_short
+fault_at (suc zero) l = bad_device_count
+fault_at (suc (suc zero)) l = bad_cost
+fault_at (suc (suc (suc zero))) l = bad_entry
+fault_at (suc (suc (suc (suc zero)))) l = extra_words
+fault_at (suc (suc (suc (suc (suc zero))))) l = small_room
+fault_at (suc (suc (suc (suc (suc (suc zero)))))) l = too_long
+fault_at (suc (suc (suc (suc (suc (suc (suc zero))))))) l = bad_rule_count
 fault_at (suc (suc (suc (suc (suc (suc (suc (suc k)))))))) l = bad_width (get_or l 2 0)
 
 -- what each kind's numbers say
@@ -30,14 +30,14 @@ pub record Identifies (f : Fault) (place : ℕ) (numbers : List ℕ) : Type 0 wh
 
 pub tells : (f : Fault) (place : ℕ) → Identifies f place (refusal_numbers f place)
 unfolding fault_at
-tells tooShort place = record { large = omega arith; small = omega arith; kind = refl; at = refl }
-tells badDeviceCount place = record { large = omega arith; small = omega arith; kind = refl; at = refl }
-tells badCost place = record { large = omega arith; small = omega arith; kind = refl; at = refl }
-tells badEntry place = record { large = omega arith; small = omega arith; kind = refl; at = refl }
-tells extraWords place = record { large = omega arith; small = omega arith; kind = refl; at = refl }
-tells smallRoom place = record { large = omega arith; small = omega arith; kind = refl; at = refl }
-tells tooLong place = record { large = omega arith; small = omega arith; kind = refl; at = refl }
-tells badRuleCount place = record { large = omega arith; small = omega arith; kind = refl; at = refl }
+tells too_short place = record { large = omega arith; small = omega arith; kind = refl; at = refl }
+tells bad_device_count place = record { large = omega arith; small = omega arith; kind = refl; at = refl }
+tells bad_cost place = record { large = omega arith; small = omega arith; kind = refl; at = refl }
+tells bad_entry place = record { large = omega arith; small = omega arith; kind = refl; at = refl }
+tells extra_words place = record { large = omega arith; small = omega arith; kind = refl; at = refl }
+tells small_room place = record { large = omega arith; small = omega arith; kind = refl; at = refl }
+tells too_long place = record { large = omega arith; small = omega arith; kind = refl; at = refl }
+tells bad_rule_count place = record { large = omega arith; small = omega arith; kind = refl; at = refl }
 tells (bad_width rule) place = record { large = omega arith; small = omega arith; kind = refl; at = refl }
 
 pub code_large : (f : Fault) (place : ℕ) (numbers : List ℕ) → refusal_numbers f place ≡ numbers → 11 ≤ get_or numbers 0 0

@@ -14,7 +14,7 @@ use borrow.Author.Tests.{le-leb, lt-ltb, le-ltb}
 use Rattle.hall.specs.Hall.{at1, at0, device, Rule, Hall}
 use Rattle.lists.specs.Lists.{Each}
 use Rattle.hall.specs.Ranges.{RuleInRange, HallInRange, words_of, number_words, entry_words, rule_words, words, SheetOf}
-use Rattle.hall.specs.Reading.{Fault, badDeviceCount, badCost, badEntry, badRuleCount, bad_width, got, Reader, ◌>>=◌, yield, word, up_to, as_entry, times, cost, entry, rule, all_rules, hall, ended, has_room, decode_by, decode}
+use Rattle.hall.specs.Reading.{Fault, bad_device_count, bad_cost, bad_entry, bad_rule_count, bad_width, got, Reader, ◌>>=◌, yield, word, up_to, as_entry, times, cost, entry, rule, all_rules, hall, ended, has_room, decode_by, decode}
 use Rattle.hall.specs.Due.{devices_on}
 use Rattle.hall.proofs.Reading.{drop_word, past, reads_on}
 
@@ -29,8 +29,8 @@ number_gives : (c : Fault) (most : ℕ) → GivesBack (word c (up_to most)) numb
 number_gives c most n g = word_gives c (up_to most) (pos n) n (rw (le-leb n most g))
 
 entry_gives : (n : ℕ) → GivesBack (entry n) entry_words (λ e. device e < n)
-entry_gives n (at1 v) g = word_gives badEntry (as_entry n) _ (at1 v) (rw (lt-ltb v n g))
-entry_gives n (at0 v) g = word_gives badEntry (as_entry n) _ (at0 v) (rw (lt-ltb v n g))
+entry_gives n (at1 v) g = word_gives bad_entry (as_entry n) _ (at1 v) (rw (lt-ltb v n g))
+entry_gives n (at0 v) g = word_gives bad_entry (as_entry n) _ (at0 v) (rw (lt-ltb v n g))
 
 module _ {A : Type 0} (r : ℕ → Reader A) (f : A → List ℤ) (P : A → Type 0) (gives : (left : ℕ) → GivesBack (r left) f P) where
   times_gives : (l : List A) → Each P l → (ws : List ℤ) (i : ℕ) (rest : List ℤ) → drop i ws ≡ words_of f l ++ rest → times (length l) r ws i ≡ got l (i + length (words_of f l))
@@ -64,9 +64,9 @@ hall_gives h g ws i rest e =
     let e₁ = past ws i (pos n ∷ []) (cs ++ (pos m ∷ (rs ++ rest))) (e ∙ ap (λ (w : List ℤ). pos n ∷ w) (append_assoc cs (pos m ∷ rs) rest)) in
     let e₂ = past ws (i + 1) cs (pos m ∷ (rs ++ rest)) e₁ in
     let e₃ = past ws (i + 1 + length cs) (pos m ∷ []) (rs ++ rest) e₂ in
-    reads_on (word badDeviceCount (up_to 200)) _ ws i (number_gives badDeviceCount 200 n g.devices ws i _ e)
-    ∙ reads_on (times n (λ left. cost)) _ ws (i + 1) (times_gives (λ left. cost) number_words (λ c. c ≤ 1000000000) (λ left. number_gives badCost 1000000000) h.costs g.cheap ws (i + 1) (pos m ∷ (rs ++ rest)) e₁)
-    ∙ reads_on (word badRuleCount (up_to 2000)) _ ws (i + 1 + length cs) (number_gives badRuleCount 2000 m g.count ws (i + 1 + length cs) (rs ++ rest) e₂)
+    reads_on (word bad_device_count (up_to 200)) _ ws i (number_gives bad_device_count 200 n g.devices ws i _ e)
+    ∙ reads_on (times n (λ left. cost)) _ ws (i + 1) (times_gives (λ left. cost) number_words (λ c. c ≤ 1000000000) (λ left. number_gives bad_cost 1000000000) h.costs g.cheap ws (i + 1) (pos m ∷ (rs ++ rest)) e₁)
+    ∙ reads_on (word bad_rule_count (up_to 2000)) _ ws (i + 1 + length cs) (number_gives bad_rule_count 2000 m g.count ws (i + 1 + length cs) (rs ++ rest) e₂)
     ∙ reads_on (all_rules n m) _ ws (i + 1 + length cs + 1) (rules_give n h.rules g.good ws (i + 1 + length cs + 1) rest e₃)
     ∙ ap (λ (j : ℕ). got h j) (omega (arith, length-append cs (pos m ∷ rs)))
 

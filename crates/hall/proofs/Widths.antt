@@ -14,7 +14,7 @@ use lib.Dec.{ltb}
 use Rattle.lists.specs.Lists.{Each}
 use Rattle.hall.specs.Hall.{Rule, Hall}
 use Rattle.hall.specs.Ranges.{RuleInRange, words_of, number_words, rule_words}
-use Rattle.hall.specs.Reading.{Fault, badDeviceCount, badCost, badEntry, badRuleCount, bad_width, Read, bad, got, Reader, then, ◌>>=◌, yield, as_read, at_word, word, up_to, as_entry, times, cost, entry, rule, all_rules, hall, ended_by, ended, room_by, has_room, decode_by, decode}
+use Rattle.hall.specs.Reading.{Fault, bad_device_count, bad_cost, bad_entry, bad_rule_count, bad_width, Read, bad, got, Reader, then, ◌>>=◌, yield, as_read, at_word, word, up_to, as_entry, times, cost, entry, rule, all_rules, hall, ended_by, ended, room_by, has_room, decode_by, decode}
 use Rattle.hall.specs.Due.{Reason}
 use Rattle.hall.proofs.Reading.{clash, Took, count_takes, costs_take, rule_takes}
 use Rattle.hall.proofs.Reasons.{verdict_only}
@@ -76,7 +76,7 @@ times_clean r c (suc k) ws i number p e =
 rule_stops : (n number : ℕ) (ws : List ℤ) (i told p : ℕ) → rule n number ws i ≡ bad (bad_width told) p → (told ≡ number) × (p ≡ i)
 unfolding rule
 rule_stops n number ws i told p e =
-    go (get_elem? ws i) (before_clean (word (bad_width number) (up_to 32)) (λ w. times w (λ left. entry n)) ws i told p e (times_clean (λ left. entry n) λ left. word_clean badEntry (as_entry n) (λ k u. let z : ◌≡◌ {A = ℕ} 0 1 = cc in omega arith)))
+    go (get_elem? ws i) (before_clean (word (bad_width number) (up_to 32)) (λ w. times w (λ left. entry n)) ws i told p e (times_clean (λ left. entry n) λ left. word_clean bad_entry (as_entry n) (λ k u. let z : ◌≡◌ {A = ℕ} 0 1 = cc in omega arith)))
   where
     one : (x : Option ℕ) → as_read (bad_width number) i x ≡ bad (bad_width told) p → (told ≡ number) × (p ≡ i)
     one none e = (cc, cc)
@@ -138,11 +138,11 @@ pub record WidthAt (ws : List ℤ) (number place : ℕ) : Type 0 where
 
 module _ (ws : List ℤ) (number p : ℕ) where
   -- what was read before the rules, and then so many of them
-  width_at : (n m j₁ j₂ j₃ : ℕ) (cs : List ℕ) → word badDeviceCount (up_to 200) ws 0 ≡ got n j₁ → times n (λ left. cost) ws j₁ ≡ got cs j₂ → word badRuleCount (up_to 2000) ws j₂ ≡ got m j₃ → all_rules n m ws j₃ ≡ bad (bad_width number) p → WidthAt ws number p
+  width_at : (n m j₁ j₂ j₃ : ℕ) (cs : List ℕ) → word bad_device_count (up_to 200) ws 0 ≡ got n j₁ → times n (λ left. cost) ws j₁ ≡ got cs j₂ → word bad_rule_count (up_to 2000) ws j₂ ≡ got m j₃ → all_rules n m ws j₃ ≡ bad (bad_width number) p → WidthAt ws number p
   width_at n m j₁ j₂ j₃ cs u v w e =
-      let a = count_takes badDeviceCount 200 ws 0 n j₁ u in
+      let a = count_takes bad_device_count 200 ws 0 n j₁ u in
       let b = costs_take n ws j₁ cs j₂ v in
-      let c = count_takes badRuleCount 2000 ws j₂ m j₃ w in
+      let c = count_takes bad_rule_count 2000 ws j₂ m j₃ w in
       let s = rules_stop n m ws number p j₃ e in
       let t = rule_stops n (m - s.left) ws s.place number p s.stopped in
       let size : length cs ≡ n = b.good.0 in
@@ -165,9 +165,9 @@ module _ (ws : List ℤ) (number p : ℕ) where
   hall_width : hall ws 0 ≡ bad (bad_width number) p → WidthAt ws number p
   unfolding hall
   hall_width e =
-      let a = past_clean (word badDeviceCount (up_to 200)) _ ws 0 number p e (word_clean badDeviceCount (up_to 200) (λ k u. let z : ◌≡◌ {A = ℕ} 0 1 = cc in omega arith)) in
-      let b = past_clean (times a.value (λ left. cost)) _ ws a.place number p a.two (times_clean (λ left. cost) (λ left. word_clean badCost (up_to 1000000000) (λ k u. let z : ◌≡◌ {A = ℕ} 0 1 = cc in omega arith)) a.value) in
-      let c = past_clean (word badRuleCount (up_to 2000)) _ ws b.place number p b.two (word_clean badRuleCount (up_to 2000) (λ k u. let z : ◌≡◌ {A = ℕ} 0 1 = cc in omega arith)) in
+      let a = past_clean (word bad_device_count (up_to 200)) _ ws 0 number p e (word_clean bad_device_count (up_to 200) (λ k u. let z : ◌≡◌ {A = ℕ} 0 1 = cc in omega arith)) in
+      let b = past_clean (times a.value (λ left. cost)) _ ws a.place number p a.two (times_clean (λ left. cost) (λ left. word_clean bad_cost (up_to 1000000000) (λ k u. let z : ◌≡◌ {A = ℕ} 0 1 = cc in omega arith)) a.value) in
+      let c = past_clean (word bad_rule_count (up_to 2000)) _ ws b.place number p b.two (word_clean bad_rule_count (up_to 2000) (λ k u. let z : ◌≡◌ {A = ℕ} 0 1 = cc in omega arith)) in
       width_at a.value c.value a.place b.place c.place b.value a.one b.one c.one
       (before_clean (all_rules a.value c.value) _ ws c.place number p c.two (λ rs. yield_clean (record { costs = b.value; rules = rs })))
 

@@ -6,7 +6,7 @@
 use Rattle.std.specs.Prelude.{◌≡◌, ◌≢◌, Bool, true, false, ◌&&◌, List, [], ◌∷◌, ◌++◌, ℕ, zero, suc, ◌≤◌, ◌<◌, length, get_or, take, ℤ, pos, negsuc, leb}
 use Rattle.hall.specs.Hall.{Hall}
 use Rattle.hall.specs.Ranges.{HallInRange, words}
-use Rattle.hall.specs.Reading.{Fault, tooShort, badDeviceCount, badCost, badEntry, extraWords, smallRoom, tooLong, badRuleCount, bad_width}
+use Rattle.hall.specs.Reading.{Fault, too_short, bad_device_count, bad_cost, bad_entry, extra_words, small_room, too_long, bad_rule_count, bad_width}
 
 -- n is the number of devices, `rule` the number of the rule at hand, from 1, `rules` how many rules are still to come, `left` how many
 -- of the same after this word
@@ -73,12 +73,12 @@ in_range_of nothing_more w = false
 
 -- "Meaning": the kind that a word outside its range gives. 02, request 1: a kind for each of the three counts
 abbrev pub fault_for : Due → Fault
-fault_for device_count = badDeviceCount
-fault_for (device_cost n left) = badCost
-fault_for (rule_count n) = badRuleCount
+fault_for device_count = bad_device_count
+fault_for (device_cost n left) = bad_cost
+fault_for (rule_count n) = bad_rule_count
 fault_for (rule_width n rule left) = bad_width rule
-fault_for (rule_entry n rule rules left) = badEntry
-fault_for nothing_more = extraWords
+fault_for (rule_entry n rule rules left) = bad_entry
+fault_for nothing_more = extra_words
 
 -- the word at a place is in the range of what it is due to be; so is each word before a place
 abbrev pub right_at : List ℤ → ℕ → Bool
@@ -128,12 +128,12 @@ pub record TooManyWords (i : ℕ) (ws : List ℤ) : Type 0 where
 
 -- the reason for a refusal of each kind, with its place
 abbrev pub Reason : Fault → ℕ → List ℤ → ℕ → Type 0
-Reason tooShort i ws room = EndsTooSoon i ws
-Reason badDeviceCount i ws room = FirstWrong badDeviceCount i ws
-Reason badCost i ws room = FirstWrong badCost i ws
-Reason badEntry i ws room = FirstWrong badEntry i ws
-Reason extraWords i ws room = WordsAfter i ws
-Reason smallRoom i ws room = RoomTooShort i ws room
-Reason tooLong i ws room = TooManyWords i ws
-Reason badRuleCount i ws room = FirstWrong badRuleCount i ws
+Reason too_short i ws room = EndsTooSoon i ws
+Reason bad_device_count i ws room = FirstWrong bad_device_count i ws
+Reason bad_cost i ws room = FirstWrong bad_cost i ws
+Reason bad_entry i ws room = FirstWrong bad_entry i ws
+Reason extra_words i ws room = WordsAfter i ws
+Reason small_room i ws room = RoomTooShort i ws room
+Reason too_long i ws room = TooManyWords i ws
+Reason bad_rule_count i ws room = FirstWrong bad_rule_count i ws
 Reason (bad_width rule) i ws room = FirstWrong (bad_width rule) i ws

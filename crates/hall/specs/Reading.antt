@@ -10,20 +10,20 @@ use Rattle.hall.specs.Hall.{Entry, at1, at0, Rule, Hall}
 
 -- the kinds of refusal, in the order of their codes. 02, request 1: "the width's also returns the rule's number, from 1"
 pub data Fault : Type 0 where
-  tooShort badDeviceCount badCost badEntry extraWords smallRoom tooLong badRuleCount : Fault
+  too_short bad_device_count bad_cost bad_entry extra_words small_room too_long bad_rule_count : Fault
   bad_width : (rule : ℕ) → Fault
 
 -- "Code" and "Returned" of a refusal: its code, its place and, for a width, its rule. 02, request 1: "Code 12 shall mean the device
 -- count only"; "18 for the rule count, 19 for the width". The one place that gives a refusal its numbers
 abbrev pub refusal_numbers : Fault → (place : ℕ) → List ℕ
-refusal_numbers tooShort place = 11 ∷ place ∷ []
-refusal_numbers badDeviceCount place = 12 ∷ place ∷ []
-refusal_numbers badCost place = 13 ∷ place ∷ []
-refusal_numbers badEntry place = 14 ∷ place ∷ []
-refusal_numbers extraWords place = 15 ∷ place ∷ []
-refusal_numbers smallRoom place = 16 ∷ place ∷ []
-refusal_numbers tooLong place = 17 ∷ place ∷ []
-refusal_numbers badRuleCount place = 18 ∷ place ∷ []
+refusal_numbers too_short place = 11 ∷ place ∷ []
+refusal_numbers bad_device_count place = 12 ∷ place ∷ []
+refusal_numbers bad_cost place = 13 ∷ place ∷ []
+refusal_numbers bad_entry place = 14 ∷ place ∷ []
+refusal_numbers extra_words place = 15 ∷ place ∷ []
+refusal_numbers small_room place = 16 ∷ place ∷ []
+refusal_numbers too_long place = 17 ∷ place ∷ []
+refusal_numbers bad_rule_count place = 18 ∷ place ∷ []
 refusal_numbers (bad_width rule) place = 19 ∷ place ∷ rule ∷ []
 
 -- what reading comes to: a refusal and its place, or a value and the place of the next word
@@ -54,7 +54,7 @@ as_read f i (some a) = got a (suc i)
 
 -- 11: "sheet ends too soon | place: the sheet's length"
 abbrev pub at_word : {A : Type 0} → Fault → (ℤ → Option A) → List ℤ → ℕ → Option ℤ → Read A
-at_word f value ws i none = bad tooShort (length ws)
+at_word f value ws i none = bad too_short (length ws)
 at_word f value ws i (some w) = as_read f i (value w)
 
 -- one word, by the value that it has where it is in its range; the kind where it has none
@@ -85,10 +85,10 @@ times (suc left) r = do
   yield (a ∷ rest)
 
 abbrev pub cost : Reader ℕ
-cost = word badCost (up_to 1000000000)
+cost = word bad_cost (up_to 1000000000)
 
 abbrev pub entry : ℕ → Reader Entry
-entry n = word badEntry (as_entry n)
+entry n = word bad_entry (as_entry n)
 
 -- "each its width and then that many entries": a rule of n devices, by its number
 unfoldable pub rule : (n number : ℕ) → Reader Rule
@@ -103,15 +103,15 @@ all_rules n m = times m (λ left. rule n (m - left))
 -- "the device count n, then n costs, device 1 first; the rule count m, then m rules"
 unfoldable pub hall : Reader Hall
 hall = do
-  n ← word badDeviceCount (up_to 200)
+  n ← word bad_device_count (up_to 200)
   costs ← times n (λ left. cost)
-  m ← word badRuleCount (up_to 2000)
+  m ← word bad_rule_count (up_to 2000)
   rules ← all_rules n m
   yield (record { costs = costs; rules = rules })
 
 -- 15: "words after the last rule | place of the first such word"
 abbrev pub ended_by : Bool → Hall → Reader Hall
-ended_by true h ws i = bad extraWords i
+ended_by true h ws i = bad extra_words i
 ended_by false h ws i = got h i
 
 abbrev pub ended : Hall → Reader Hall
@@ -119,7 +119,7 @@ ended h ws i = ended_by (ltb i (length ws)) h ws i
 
 -- 16: "plan room shorter than n | place: n"
 abbrev pub room_by : Bool → Hall → Reader Hall
-room_by true h ws i = bad smallRoom (length h.costs)
+room_by true h ws i = bad small_room (length h.costs)
 room_by false h ws i = got h i
 
 abbrev pub has_room : ℕ → Hall → Reader Hall
@@ -127,7 +127,7 @@ has_room room h ws i = room_by (ltb room (length h.costs)) h ws i
 
 -- 17: "more than 16,384 words | place: 16,384". "Order: 17; then the sheet from left to right ..; then 15; then 16."
 unfoldable pub decode_by : Bool → ℕ → List ℤ → Read Hall
-decode_by true room ws = bad tooLong 16384
+decode_by true room ws = bad too_long 16384
 decode_by false room ws = ((hall >>= ended) >>= has_room room) ws 0
 
 -- a sheet, for a plan room of so many bytes

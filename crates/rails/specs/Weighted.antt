@@ -58,7 +58,7 @@ abbrev pub top : List Clause → ℕ
 top cs = soft_weights cs + 1
 
 -- before 2022 a hard clause is one of the top weight: all weights that a setting breaks, where a hard clause weighs so much
-unfoldable pub broken_at : (hardWeight : ℕ) → Setting → List Clause → ℕ
+unfoldable pub broken_at : (hard_weight : ℕ) → Setting → List Clause → ℕ
 broken_at t s [] = 0
 broken_at t s (hard c ∷ cs) = cond (rule_true s c) 0 t + broken_at t s cs
 broken_at t s (soft w c ∷ cs) = cond (rule_true s c) 0 w + broken_at t s cs

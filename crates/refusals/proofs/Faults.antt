@@ -1,20 +1,20 @@
 -- The kinds of refusal, from the code's enum to the definitions and back: nothing is lost either way (`fault_kind`, `kind_fault`).
 -- Assumes nothing.
 use mathlib.Core.Path.{◌≡◌, refl}
-use Rattle.hall.specs.Reading.{Fault, tooShort, badDeviceCount, badCost, badEntry, extraWords, smallRoom, tooLong, badRuleCount, bad_width}
+use Rattle.hall.specs.Reading.{Fault, too_short, bad_device_count, bad_cost, bad_entry, extra_words, small_room, too_long, bad_rule_count, bad_width}
 use Rattle.refusals.specs.Contract.{fault_of, kind_of}
 use Rattle.refusals.specs.declared.Refusal.{Refusal}
 use Rattle.refusals.specs.declared.Refusal.TheVariants.{TooShort, BadDeviceCount, BadCost, BadEntry, ExtraWords, SmallRoom, TooLong, BadRuleCount, BadWidth}
 
 pub fault_kind : (f : Fault) → fault_of (kind_of f) ≡ f
-fault_kind tooShort = refl
-fault_kind badDeviceCount = refl
-fault_kind badCost = refl
-fault_kind badEntry = refl
-fault_kind extraWords = refl
-fault_kind smallRoom = refl
-fault_kind tooLong = refl
-fault_kind badRuleCount = refl
+fault_kind too_short = refl
+fault_kind bad_device_count = refl
+fault_kind bad_cost = refl
+fault_kind bad_entry = refl
+fault_kind extra_words = refl
+fault_kind small_room = refl
+fault_kind too_long = refl
+fault_kind bad_rule_count = refl
 fault_kind (bad_width rule) = refl
 
 pub kind_fault : (k : Refusal) → kind_of (fault_of k) ≡ k

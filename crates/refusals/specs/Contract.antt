@@ -3,32 +3,32 @@
 -- In order: the kind of a refusal, from the code's enum to the definitions and back; its numbers; the contract. Definitions only.
 use Rattle.std.specs.Prelude.{◌≡◌, List, ℕ, ◌≤◌, length}
 use Rattle.lists.specs.Lists.{in_front}
-use Rattle.hall.specs.Reading.{Fault, tooShort, badDeviceCount, badCost, badEntry, extraWords, smallRoom, tooLong, badRuleCount, bad_width, refusal_numbers}
+use Rattle.hall.specs.Reading.{Fault, too_short, bad_device_count, bad_cost, bad_entry, extra_words, small_room, too_long, bad_rule_count, bad_width, refusal_numbers}
 use Rattle.refusals.specs.declared.Refusal.{Refusal}
 use Rattle.refusals.specs.declared.Refusal.TheVariants.{TooShort, BadDeviceCount, BadCost, BadEntry, ExtraWords, SmallRoom, TooLong, BadRuleCount, BadWidth}
 
 -- the kind of refusal that a case of the enum is
 abbrev pub fault_of : Refusal → Fault
-fault_of TooShort = tooShort
-fault_of BadDeviceCount = badDeviceCount
-fault_of BadCost = badCost
-fault_of BadEntry = badEntry
-fault_of ExtraWords = extraWords
-fault_of SmallRoom = smallRoom
-fault_of TooLong = tooLong
-fault_of BadRuleCount = badRuleCount
+fault_of TooShort = too_short
+fault_of BadDeviceCount = bad_device_count
+fault_of BadCost = bad_cost
+fault_of BadEntry = bad_entry
+fault_of ExtraWords = extra_words
+fault_of SmallRoom = small_room
+fault_of TooLong = too_long
+fault_of BadRuleCount = bad_rule_count
 fault_of (BadWidth rule) = bad_width rule
 
 -- the case that a kind of refusal is
 abbrev pub kind_of : Fault → Refusal
-kind_of tooShort = TooShort
-kind_of badDeviceCount = BadDeviceCount
-kind_of badCost = BadCost
-kind_of badEntry = BadEntry
-kind_of extraWords = ExtraWords
-kind_of smallRoom = SmallRoom
-kind_of tooLong = TooLong
-kind_of badRuleCount = BadRuleCount
+kind_of too_short = TooShort
+kind_of bad_device_count = BadDeviceCount
+kind_of bad_cost = BadCost
+kind_of bad_entry = BadEntry
+kind_of extra_words = ExtraWords
+kind_of small_room = SmallRoom
+kind_of too_long = TooLong
+kind_of bad_rule_count = BadRuleCount
 kind_of (bad_width rule) = BadWidth rule
 
 -- the paper's numbers of a refusal

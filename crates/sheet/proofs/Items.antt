@@ -14,7 +14,7 @@ use lib.IntN.{ℤ, pos, negsuc}
 use lib.Dec.{ltb}
 use borrow.Author.Tests.{le-leb, lt-leb, lt-ltb, le-ltb, ltb-true}
 use Rattle.hall.specs.Hall.{Entry, at1, at0, device}
-use Rattle.hall.specs.Reading.{Fault, tooShort, Read, bad, got, as_read, at_word, word, only_if, up_to, as_entry}
+use Rattle.hall.specs.Reading.{Fault, too_short, Read, bad, got, as_read, at_word, word, only_if, up_to, as_entry}
 use Rattle.refusals.specs.Word.{split_of}
 use Rattle.refusals.specs.declared.Split.{Split}
 use Rattle.refusals.specs.declared.Split.TheVariants as split
@@ -174,14 +174,14 @@ pub record Given {A : Type 0} (r : Read A) (ws : List ℤ) (i : ℕ) : Type 0 wh
   pub here : i < length ws
 
 module _ {A : Type 0} (f : Fault) (value : ℤ → Option A) (tell : ℤ → Option ℕ) (alike : (w : ℤ) → Alike (value w) (tell w)) (ws : List ℤ) (i : ℕ) (told : Item) (e : told ≡ item_of tell (get_elem? ws i)) where
-  pub told_missing : told ≡ item.Missing → word f value ws i ≡ bad tooShort (length ws)
+  pub told_missing : told ≡ item.Missing → word f value ws i ≡ bad too_short (length ws)
   told_missing u = go (get_elem? ws i) (sym e ∙ u)
     where
-      by : (x : Option ℕ) (y : Read A) → item_by x ≡ item.Missing → y ≡ bad tooShort (length ws)
+      by : (x : Option ℕ) (y : Read A) → item_by x ≡ item.Missing → y ≡ bad too_short (length ws)
       by none y e = absurd (let z : ◌≡◌ {A = ℕ} 0 1 = cc in omega arith)
       by (some n) y e = absurd (let z : ◌≡◌ {A = ℕ} 0 1 = cc in omega arith)
 
-      go : (o : Option ℤ) → item_of tell o ≡ item.Missing → at_word f value ws i o ≡ bad tooShort (length ws)
+      go : (o : Option ℤ) → item_of tell o ≡ item.Missing → at_word f value ws i o ≡ bad too_short (length ws)
       go none e = refl
       go (some w) e = by (tell w) _ e
 

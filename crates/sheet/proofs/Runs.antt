@@ -10,7 +10,7 @@ use Prim.Native.Nat.{ℕ, zero, suc, ◌+◌, ◌-◌, ◌<◌}
 use native.Mathlib.Numerals.{sub-one}
 use lib.ListN.{length, get_elem?}
 use lib.IntN.{ℤ}
-use Rattle.hall.specs.Reading.{Fault, tooShort, badCost, badEntry, Read, bad, got, Reader, then, ◌>>=◌, yield, word, up_to, as_entry, times, cost, entry}
+use Rattle.hall.specs.Reading.{Fault, too_short, bad_cost, bad_entry, Read, bad, got, Reader, then, ◌>>=◌, yield, word, up_to, as_entry, times, cost, entry}
 use Rattle.refusals.specs.Contract.{kind_of}
 use Rattle.refusals.specs.declared.Refusal.TheVariants.{TooShort, BadCost, BadEntry}
 use Rattle.sheet.specs.Word.{item_of, code_in}
@@ -53,7 +53,7 @@ module _ {A : Type 0} (f : Fault) (value : ℤ → Option A) (tell : ℤ → Opt
     (ws : List ℤ) (place left : ℕ) (whole : Step) (inv : step_of (times left (λ k. word f value) ws place) ≡ whole) (more : left ≡ 0 → ⊥)
     (told : Item) (e : told ≡ item_of tell (get_elem? ws place)) where
   word_missing : told ≡ item.Missing → step.Bad TooShort (length ws) ≡ whole
-  word_missing u = run_bad (λ k. word f value) ws place left whole inv more tooShort (length ws) (told_missing f value tell alike ws place told e u)
+  word_missing u = run_bad (λ k. word f value) ws place left whole inv more too_short (length ws) (told_missing f value tell alike ws place told e u)
 
   word_outside : told ≡ item.Outside → step.Bad (kind_of f) place ≡ whole
   word_outside u = run_bad (λ k. word f value) ws place left whole inv more f place (told_outside f value tell alike ws place told e u)
@@ -63,24 +63,24 @@ module _ {A : Type 0} (f : Fault) (value : ℤ → Option A) (tell : ℤ → Opt
 
 module _ (ws : List ℤ) (place left : ℕ) (whole : Step) (inv : step_of (times left (λ k. cost) ws place) ≡ whole) (more : left ≡ 0 → ⊥) (told : Item) (e : told ≡ item_of (up_to 1000000000) (get_elem? ws place)) where
   pub cost_missing : told ≡ item.Missing → step.Bad TooShort (length ws) ≡ whole
-  cost_missing = word_missing badCost (up_to 1000000000) (up_to 1000000000) (alike_same (up_to 1000000000)) ws place left whole inv more told e
+  cost_missing = word_missing bad_cost (up_to 1000000000) (up_to 1000000000) (alike_same (up_to 1000000000)) ws place left whole inv more told e
 
   pub cost_outside : told ≡ item.Outside → step.Bad BadCost place ≡ whole
-  cost_outside = word_outside badCost (up_to 1000000000) (up_to 1000000000) (alike_same (up_to 1000000000)) ws place left whole inv more told e
+  cost_outside = word_outside bad_cost (up_to 1000000000) (up_to 1000000000) (alike_same (up_to 1000000000)) ws place left whole inv more told e
 
   pub cost_on : (c : ℕ) → told ≡ item.Is c → step_of (times (left - 1) (λ k. cost) ws (place + 1)) ≡ whole
-  cost_on = word_on badCost (up_to 1000000000) (up_to 1000000000) (alike_same (up_to 1000000000)) ws place left whole inv more told e
+  cost_on = word_on bad_cost (up_to 1000000000) (up_to 1000000000) (alike_same (up_to 1000000000)) ws place left whole inv more told e
 
 module _ (n : ℕ) (ws : List ℤ) (place left : ℕ) (whole : Step) (inv : step_of (times left (λ k. entry n) ws place) ≡ whole) (more : left ≡ 0 → ⊥) (told : Item) (e : told ≡ item_of (code_in n) (get_elem? ws place)) where
   pub entry_missing : told ≡ item.Missing → step.Bad TooShort (length ws) ≡ whole
-  entry_missing = word_missing badEntry (as_entry n) (code_in n) (entry_alike n) ws place left whole inv more told e
+  entry_missing = word_missing bad_entry (as_entry n) (code_in n) (entry_alike n) ws place left whole inv more told e
 
   pub entry_outside : told ≡ item.Outside → step.Bad BadEntry place ≡ whole
-  entry_outside = word_outside badEntry (as_entry n) (code_in n) (entry_alike n) ws place left whole inv more told e
+  entry_outside = word_outside bad_entry (as_entry n) (code_in n) (entry_alike n) ws place left whole inv more told e
 
   pub entry_on : (c : ℕ) → told ≡ item.Is c → step_of (times (left - 1) (λ k. entry n) ws (place + 1)) ≡ whole
-  entry_on = word_on badEntry (as_entry n) (code_in n) (entry_alike n) ws place left whole inv more told e
+  entry_on = word_on bad_entry (as_entry n) (code_in n) (entry_alike n) ws place left whole inv more told e
 
 -- the word is there
 pub told_inside : (ws : List ℤ) (i c : ℕ) (tell : ℤ → Option ℕ) (told : Item) → told ≡ item_of tell (get_elem? ws i) → told ≡ item.Is c → i < length ws
-told_inside ws i c tell told e u = (told_is tooShort tell tell (alike_same tell) ws i told e c u).here
+told_inside ws i c tell told e u = (told_is too_short tell tell (alike_same tell) ws i told e c u).here

@@ -10,7 +10,7 @@ use lib.ListN.{length}
 use lib.IntN.{ℤ}
 use borrow.Author.Tests.{lt-ltb, le-ltb}
 use Rattle.hall.specs.Hall.{Hall}
-use Rattle.hall.specs.Reading.{Fault, badDeviceCount, badRuleCount, Read, bad, got, Reader, then, ◌>>=◌, yield, word, up_to, times, cost, rule, all_rules, hall, ended, has_room, decode_by, decode}
+use Rattle.hall.specs.Reading.{Fault, bad_device_count, bad_rule_count, Read, bad, got, Reader, then, ◌>>=◌, yield, word, up_to, times, cost, rule, all_rules, hall, ended, has_room, decode_by, decode}
 use Rattle.hall.proofs.Reading.{reads, reads_on}
 use Rattle.refusals.specs.Contract.{kind_of}
 use Rattle.refusals.specs.declared.Refusal.{Refusal}
@@ -48,44 +48,44 @@ module _ (room : ℕ) (ws : List ℤ) (short : length ws ≤ 16384) where
   hall_bad f p kind k e = rw (k, le-ltb 16384 (length ws) short) (sym (ap sheet_of (bad_then (hall >>= ended) (has_room room) ws 0 (bad_then hall ended ws 0 e))))
 
   -- ── the check's returns ──
-  module _ (c₁ : Count) (e₁ : c₁ ≡ count_of (word badDeviceCount (up_to 200) ws 0)) where
+  module _ (c₁ : Count) (e₁ : c₁ ≡ count_of (word bad_device_count (up_to 200) ws 0)) where
     pub devices_bad : (kind : Refusal) (place : ℕ) → c₁ ≡ count.Bad kind place → sheet.Refused kind place ≡ sheet_of (decode room ws)
     unfolding hall
     devices_bad kind place u =
-        let b = count_bad (word badDeviceCount (up_to 200) ws 0) c₁ kind place e₁ u in
-        hall_bad b.fault place kind b.same (bad_then (word badDeviceCount (up_to 200)) _ ws 0 b.is)
+        let b = count_bad (word bad_device_count (up_to 200) ws 0) c₁ kind place e₁ u in
+        hall_bad b.fault place kind b.same (bad_then (word bad_device_count (up_to 200)) _ ws 0 b.is)
 
     module _ (n : ℕ) (u₁ : c₁ ≡ count.Is n) (s₁ : Step) (e₂ : s₁ ≡ step_of (times n (λ left. cost) ws 1)) where
-      devices : word badDeviceCount (up_to 200) ws 0 ≡ got n 1
-      devices = (count_got badDeviceCount ws 0 200 c₁ n e₁ u₁).is
+      devices : word bad_device_count (up_to 200) ws 0 ≡ got n 1
+      devices = (count_got bad_device_count ws 0 200 c₁ n e₁ u₁).is
 
       pub costs_bad : (kind : Refusal) (place : ℕ) → s₁ ≡ step.Bad kind place → sheet.Refused kind place ≡ sheet_of (decode room ws)
       unfolding hall
       costs_bad kind place u =
           let b = step_refuses (times n (λ left. cost) ws 1) s₁ kind place e₂ u in
-          hall_bad b.fault place kind b.same (reads_on (word badDeviceCount (up_to 200)) _ ws 0 devices ∙ bad_then (times n (λ left. cost)) _ ws 1 b.is)
+          hall_bad b.fault place kind b.same (reads_on (word bad_device_count (up_to 200)) _ ws 0 devices ∙ bad_then (times n (λ left. cost)) _ ws 1 b.is)
 
-      module _ (behind : ℕ) (u₂ : s₁ ≡ step.Next behind) (c₂ : Count) (e₃ : c₂ ≡ count_of (word badRuleCount (up_to 2000) ws behind)) where
+      module _ (behind : ℕ) (u₂ : s₁ ≡ step.Next behind) (c₂ : Count) (e₃ : c₂ ≡ count_of (word bad_rule_count (up_to 2000) ws behind)) where
         costs : NextAt (times n (λ left. cost) ws 1) behind
         costs = step_gives (times n (λ left. cost) ws 1) s₁ behind e₂ u₂
 
         pub count_bad_too : (kind : Refusal) (place : ℕ) → c₂ ≡ count.Bad kind place → sheet.Refused kind place ≡ sheet_of (decode room ws)
         unfolding hall
         count_bad_too kind place u =
-            let b = count_bad (word badRuleCount (up_to 2000) ws behind) c₂ kind place e₃ u in
+            let b = count_bad (word bad_rule_count (up_to 2000) ws behind) c₂ kind place e₃ u in
             hall_bad b.fault place kind b.same
-            (reads_on (word badDeviceCount (up_to 200)) _ ws 0 devices ∙ reads_on (times n (λ left. cost)) _ ws 1 costs.is ∙ bad_then (word badRuleCount (up_to 2000)) _ ws behind b.is)
+            (reads_on (word bad_device_count (up_to 200)) _ ws 0 devices ∙ reads_on (times n (λ left. cost)) _ ws 1 costs.is ∙ bad_then (word bad_rule_count (up_to 2000)) _ ws behind b.is)
 
         module _ (m : ℕ) (u₃ : c₂ ≡ count.Is m) (s₂ : Step) (e₄ : s₂ ≡ step_of (all_rules n m ws (behind + 1))) where
-          rule_count_lem : word badRuleCount (up_to 2000) ws behind ≡ got m (behind + 1)
-          rule_count_lem = (count_got badRuleCount ws behind 2000 c₂ m e₃ u₃).is
+          rule_count_lem : word bad_rule_count (up_to 2000) ws behind ≡ got m (behind + 1)
+          rule_count_lem = (count_got bad_rule_count ws behind 2000 c₂ m e₃ u₃).is
 
           pub rules_refused : (kind : Refusal) (place : ℕ) → s₂ ≡ step.Bad kind place → sheet.Refused kind place ≡ sheet_of (decode room ws)
           unfolding hall
           rules_refused kind place u =
               let b = step_refuses (all_rules n m ws (behind + 1)) s₂ kind place e₄ u in
               hall_bad b.fault place kind b.same
-              (reads_on (word badDeviceCount (up_to 200)) _ ws 0 devices ∙ reads_on (times n (λ left. cost)) _ ws 1 costs.is ∙ reads_on (word badRuleCount (up_to 2000)) _ ws behind rule_count_lem
+              (reads_on (word bad_device_count (up_to 200)) _ ws 0 devices ∙ reads_on (times n (λ left. cost)) _ ws 1 costs.is ∙ reads_on (word bad_rule_count (up_to 2000)) _ ws behind rule_count_lem
               ∙ bad_then (all_rules n m) _ ws (behind + 1) b.is)
 
           module _ (end : ℕ) (u₄ : s₂ ≡ step.Next end) where
@@ -98,7 +98,7 @@ module _ (room : ℕ) (ws : List ℤ) (short : length ws ≤ 16384) where
             whole_read : hall ws 0 ≡ got whole end
             unfolding hall whole
             whole_read =
-                reads_on (word badDeviceCount (up_to 200)) _ ws 0 devices ∙ reads_on (times n (λ left. cost)) _ ws 1 costs.is ∙ reads_on (word badRuleCount (up_to 2000)) _ ws behind rule_count_lem
+                reads_on (word bad_device_count (up_to 200)) _ ws 0 devices ∙ reads_on (times n (λ left. cost)) _ ws 1 costs.is ∙ reads_on (word bad_rule_count (up_to 2000)) _ ws behind rule_count_lem
                 ∙ reads_on (all_rules n m) _ ws (behind + 1) rules.is
 
             costs_count : length whole.costs ≡ n
@@ -113,9 +113,9 @@ module _ (room : ℕ) (ws : List ℤ) (short : length ws ≤ 16384) where
             unfolding decode decode_by
             words_behind l = rw (le-ltb 16384 (length ws) short, whole_read, lt-ltb end (length ws) l)
 
-            pub small_room : length ws ≤ end → room < n → sheet.Refused SmallRoom n ≡ sheet_of (decode room ws)
+            pub small_room_lem : length ws ≤ end → room < n → sheet.Refused SmallRoom n ≡ sheet_of (decode room ws)
             unfolding decode decode_by
-            small_room l k =
+            small_room_lem l k =
                 let small : room < length whole.costs = omega (arith, costs_count) in
                 rw (le-ltb 16384 (length ws) short, whole_read, le-ltb end (length ws) l, lt-ltb room (length whole.costs) small, costs_count)
 

@@ -85,13 +85,13 @@ module _ (ws : List ℤ) (budget : ℕ) (before : List ℕ) where
           go (walks.refused f i) e room a = absurd (let z : ◌≡◌ {A = ℕ} 0 1 = cc in omega arith)
 
       -- the list does not fit
-      too_short : (256 < length finished.ps) ⊎ (length before < length (joined finished.ps)) → (after : List ℕ) → after ≡ before → ListsTies ws budget before (Refused ShortRoom (length before)) after
-      too_short l after same =
+      too_short_lem : (256 < length finished.ps) ⊎ (length before < length (joined finished.ps)) → (after : List ℕ) → after ≡ before → ListsTies ws budget before (Refused ShortRoom (length before)) after
+      too_short_lem l after same =
           let f = finished in
           listed_as (short (length before)) after (f.is ∙ ap (λ (t : Bool). listed_by t (length before) cost held opened f.ps) ((over_exact (length before) f.ps).1 l)) same
 
       pub call_many : 256 < equal → ListsTies ws budget before (Refused ShortRoom (length before)) before
-      call_many l = let f = finished in too_short (inl (omega (arith, f.count, f.handed.number))) before refl
+      call_many l = let f = finished in too_short_lem (inl (omega (arith, f.count, f.handed.number))) before refl
 
       -- ── no more than 256 ──
       module _ (few : equal ≤ 256) where
@@ -143,7 +143,7 @@ module _ (ws : List ℤ) (budget : ℕ) (before : List ℕ) where
                 let l = leb-false (length (joined f.ts)) (length before) not in
                 let same : after ≡ before = ordered.room ∙ ap (λ (t : Bool). cond t (in_front (joined (in_order (plans_in n (joined f.ts)))) before) before) not in
                 subst (λ (place : ℕ). ListsTies ws budget before (Refused ShortRoom place) after) (sym (ap length same))
-                (too_short (inr (omega (arith, handed_length n f.ts f.ps f.handed))) after same)
+                (too_short_lem (inr (omega (arith, handed_length n f.ts f.ps f.handed))) after same)
 
     -- ── the other cases ──
     pub call_none : {opened : ℕ} → o ≡ walk.None opened → ListsTies ws budget before (None opened) before

@@ -1,6 +1,6 @@
 -- The answer of `read`: what the two passes come to.
 --
--- In order: an answer that is the reader's meets the contract (`reads_so`); a text that is too long (`too_long`); where the scan told so many
+-- In order: an answer that is the reader's meets the contract (`reads_so`); a text that is too long (`too_long_lem`); where the scan told so many
 -- words, they were read (`scanned_words`); what the fill leaves (`answers`), and a refusal (`scanned_refused`). Assumes nothing.
 use mathlib.Core.Path.{◌≡◌, refl, sym, ◌∙◌, ap, subst}
 use mathlib.Core.List.{List}
@@ -33,8 +33,8 @@ reads_so {text} {before} {after} e room = record {
   reason = subst (λ (r : Reading). Justified text (length before) r after) (sym e) (justified text before after (read_text text (length before)) (verdict text (length before)) room);
 }
 
-pub too_long : {text : List ℕ} {before : List ℤ} → 60000 < length text → Reads text before (Refused TooLong 60000) before
-too_long {text} {before} h = let e = over_long text (length before) h in reads_so (ap reading_of e) (ap (λ (x : Read (List ℤ)). room_after x before) e)
+pub too_long_lem : {text : List ℕ} {before : List ℤ} → 60000 < length text → Reads text before (Refused TooLong 60000) before
+too_long_lem {text} {before} h = let e = over_long text (length before) h in reads_so (ap reading_of e) (ap (λ (x : Read (List ℤ)). room_after x before) e)
 
 -- ── the two passes ──
 -- where the answer is a number of words, they were read; where it is a refusal, the room is as it was

@@ -40,14 +40,14 @@ use Rattle.walk.specs.Node.{alone, Opens}
 use Rattle.walk.proofs.Ends.{admitted, stopped}
 use Rattle.walk.proofs.Nodes.{node_met, node_shut, node_branches}
 
-module _ {best : BestSoFar} {bestPlan p : Plan} {cost held : ℕ} {answer : Bool} (asked : answer ≡ is_better best bestPlan p cost held) where
-  pub settles_better : {bestPlan' : Plan} → answer ≡ true → length bestPlan ≡ length p → bestPlan' ≡ written_in p bestPlan → Settles best bestPlan p cost held (record { found = true; cost = cost; held = held }) bestPlan'
+module _ {best : BestSoFar} {best_plan p : Plan} {cost held : ℕ} {answer : Bool} (asked : answer ≡ is_better best best_plan p cost held) where
+  pub settles_better : {best_plan' : Plan} → answer ≡ true → length best_plan ≡ length p → best_plan' ≡ written_in p best_plan → Settles best best_plan p cost held (record { found = true; cost = cost; held = held }) best_plan'
   settles_better yes-so long written =
       let better = sym asked ∙ yes-so in
-      let whole = write_fits p bestPlan (omega arith) ∙ ap (λ (l : List ℕ). p ++ l) (drop_of_length-le bestPlan {i = length p} (omega arith)) ∙ append-nil p in
+      let whole = write_fits p best_plan (omega arith) ∙ ap (λ (l : List ℕ). p ++ l) (drop_of_length-le best_plan {i = length p} (omega arith)) ∙ append-nil p in
       record { numbers = rw better refl; written = rw better (written ∙ whole) }
 
-  pub settles_kept : answer ≡ false → Settles best bestPlan p cost held best bestPlan
+  pub settles_kept : answer ≡ false → Settles best best_plan p cost held best best_plan
   settles_kept not_so = let worse = sym asked ∙ not_so in record { numbers = rw worse refl; written = rw worse refl }
 
 pub less_last : (x y : ℕ) → less (x ∷ []) ((y + 1) ∷ []) ≡ leb x y
@@ -60,50 +60,50 @@ less_last x y = go (tri x (y + 1))
     go (above u) = less_above _ _ [] [] u ∙ sym (lt-leb x y (omega arith))
 
 -- ── steps 1 and 2 ──
-module _ (costs : List ℕ) (p bestPlan : Plan) (cost held : ℕ) (tally : Tally costs p cost held) where
-  better_is : {c k : ℕ} → Tally costs bestPlan c k → less (cost ∷ held ∷ p) (c ∷ k ∷ bestPlan) ≡ better costs p bestPlan
+module _ (costs : List ℕ) (p best_plan : Plan) (cost held : ℕ) (tally : Tally costs p cost held) where
+  better_is : {c k : ℕ} → Tally costs best_plan c k → less (cost ∷ held ∷ p) (c ∷ k ∷ best_plan) ≡ better costs p best_plan
   unfolding better rank
   better_is t = rw (tally.cost_is, tally.held_is, t.cost_is, t.held_is) refl
 
-  closed_is : (h : Hall) → h.costs ≡ costs → (best : BestSoFar) → Shown costs best bestPlan → is_closed best cost held ≡ shut h p (best_of best bestPlan)
+  closed_is : (h : Hall) → h.costs ≡ costs → (best : BestSoFar) → Shown costs best best_plan → is_closed best cost held ≡ shut h p (best_of best best_plan)
   closed_is h same best shown = go best.found best.cost best.held shown
     where
-      go : (f : Bool) (c k : ℕ) → (f ≡ true → Tally costs bestPlan c k) → is_closed (record { found = f; cost = c; held = k }) cost held ≡ shut h p (cond f (so_far bestPlan) none_yet)
-      go true c k t = rw (shut_best h p bestPlan, same) (simp (tally.cost_is, tally.held_is, (t refl).cost_is, (t refl).held_is))
+      go : (f : Bool) (c k : ℕ) → (f ≡ true → Tally costs best_plan c k) → is_closed (record { found = f; cost = c; held = k }) cost held ≡ shut h p (cond f (so_far best_plan) none_yet)
+      go true c k t = rw (shut_best h p best_plan, same) (simp (tally.cost_is, tally.held_is, (t refl).cost_is, (t refl).held_is))
       go false c k t = sym (shut_none h p)
 
   -- the best so far after a plan that meets every rule
   abbrev KeptBest : BestSoFar → BestSoFar → Plan → Type 0
-  KeptBest best best' bestPlan' = (best_of best' bestPlan' ≡ so_far (keep costs p (best_of best bestPlan))) × Shown costs best' bestPlan'
+  KeptBest best best' best_plan' = (best_of best' best_plan' ≡ so_far (keep costs p (best_of best best_plan))) × Shown costs best' best_plan'
 
   abbrev mine : BestSoFar
   mine = record { found = true; cost = cost; held = held }
 
-  kept : (f : Bool) (c k : ℕ) → (f ≡ true → Tally costs bestPlan c k) →
+  kept : (f : Bool) (c k : ℕ) → (f ≡ true → Tally costs best_plan c k) →
       (let best : BestSoFar = record { found = f; cost = c; held = k } in
-      let t = is_better best bestPlan p cost held in
-      KeptBest best (cond t mine best) (cond t p bestPlan))
+      let t = is_better best best_plan p cost held in
+      KeptBest best (cond t mine best) (cond t p best_plan))
   unfolding keep
   kept false c k shown = (refl, λ _. tally)
-  kept true c k shown = rw (better_is (shown refl)) (go (better costs p bestPlan))
+  kept true c k shown = rw (better_is (shown refl)) (go (better costs p best_plan))
     where
       go : (t : Bool) →
           (let best' = cond t mine (record { found = true; cost = c; held = k }) in
-          (best_of best' (cond t p bestPlan) ≡ so_far (cond t p bestPlan)) × Shown costs best' (cond t p bestPlan))
+          (best_of best' (cond t p best_plan) ≡ so_far (cond t p best_plan)) × Shown costs best' (cond t p best_plan))
       go true = (refl, λ _. tally)
       go false = (refl, shown)
 
-  settled : (best best' : BestSoFar) (bestPlan' : Plan) → Shown costs best bestPlan → Settles best bestPlan p cost held best' bestPlan' → KeptBest best best' bestPlan'
-  settled best best' bestPlan' shown s = rw (s.numbers, s.written) (kept best.found best.cost best.held shown)
+  settled : (best best' : BestSoFar) (best_plan' : Plan) → Shown costs best best_plan → Settles best best_plan p cost held best' best_plan' → KeptBest best best' best_plan'
+  settled best best' best_plan' shown s = rw (s.numbers, s.written) (kept best.found best.cost best.held shown)
 
   -- the ties so far, after it
-  noted_is : (best : BestSoFar) (ts : List Plan) → Shown costs best bestPlan → noted_by (is_lower best cost held) (is_equal best cost held) p ts ≡ noted costs p (best_of best bestPlan) ts
+  noted_is : (best : BestSoFar) (ts : List Plan) → Shown costs best best_plan → noted_by (is_lower best cost held) (is_equal best cost held) p ts ≡ noted costs p (best_of best best_plan) ts
   unfolding noted noted_by lower ties
   noted_is best ts shown = go best.found best.cost best.held shown
     where
-      go : (f : Bool) (c k : ℕ) → (f ≡ true → Tally costs bestPlan c k) →
+      go : (f : Bool) (c k : ℕ) → (f ≡ true → Tally costs best_plan c k) →
           (let best : BestSoFar = record { found = f; cost = c; held = k } in
-          noted_by (is_lower best cost held) (is_equal best cost held) p ts ≡ noted costs p (cond f (so_far bestPlan) none_yet) ts)
+          noted_by (is_lower best cost held) (is_equal best cost held) p ts ≡ noted costs p (cond f (so_far best_plan) none_yet) ts)
       go true c k t = rw (tally.cost_is, tally.held_is, (t refl).cost_is, (t refl).held_is) refl
       go false c k t = refl
 

@@ -1,6 +1,6 @@
 -- The best so far, of its numbers and its plan, and steps 1 and 2 on these numbers. 01, "The walk".
 --
--- In order: a plan's numbers; the best so far; step 1; step 2. `bestPlan` is what lies in front of the room of what is kept.
+-- In order: a plan's numbers; the best so far; step 1; step 2. `best_plan` is what lies in front of the room of what is kept.
 -- Definitions only.
 use Rattle.std.specs.Prelude.{◌≡◌, Bool, true, false, cond, List, [], ◌∷◌, ℕ, ◌+◌}
 use Rattle.hall.specs.Hall.{Plan}
@@ -15,20 +15,20 @@ pub record Tally (costs : List ℕ) (p : Plan) (cost held : ℕ) : Type 0 where
 
 -- the best so far: what lies in its room, where one was found
 abbrev pub best_of : BestSoFar → Plan → Best
-best_of best bestPlan = cond best.found (so_far bestPlan) none_yet
+best_of best best_plan = cond best.found (so_far best_plan) none_yet
 
 -- the numbers are those of the plan that lies there, where one was found
 abbrev pub Shown : List ℕ → BestSoFar → Plan → Type 0
-Shown costs best bestPlan = best.found ≡ true → Tally costs bestPlan best.cost best.held
+Shown costs best best_plan = best.found ≡ true → Tally costs best_plan best.cost best.held
 
 -- step 1: "if there is none or it is better"
 abbrev pub is_better : BestSoFar → Plan → Plan → ℕ → ℕ → Bool
-is_better best bestPlan p cost held = cond best.found (less (cost ∷ held ∷ p) (best.cost ∷ best.held ∷ bestPlan)) true
+is_better best best_plan p cost held = cond best.found (less (cost ∷ held ∷ p) (best.cost ∷ best.held ∷ best_plan)) true
 
 -- step 1: "it becomes the best so far"
-pub record Settles (best : BestSoFar) (bestPlan p : Plan) (cost held : ℕ) (best' : BestSoFar) (bestPlan' : Plan) : Type 0 where
-  pub numbers : best' ≡ cond (is_better best bestPlan p cost held) (record { found = true; cost = cost; held = held }) best
-  pub written : bestPlan' ≡ cond (is_better best bestPlan p cost held) p bestPlan
+pub record Settles (best : BestSoFar) (best_plan p : Plan) (cost held : ℕ) (best' : BestSoFar) (best_plan' : Plan) : Type 0 where
+  pub numbers : best' ≡ cond (is_better best best_plan p cost held) (record { found = true; cost = cost; held = held }) best
+  pub written : best_plan' ≡ cond (is_better best best_plan p cost held) p best_plan
 
 -- step 2: "the node's cost is above the best's, or the costs are equal and the node's held number plus 1 is above the best's"
 abbrev pub is_closed : BestSoFar → ℕ → ℕ → Bool

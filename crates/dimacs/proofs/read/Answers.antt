@@ -1,10 +1,10 @@
 -- `read` meets its contract: a text that is too long is refused, any other is read up to its first flaw, and where there is none the
 -- sheet is put into the room. Assumes nothing.
-use Rattle.dimacs.proofs.FileRead.{too_long, header_missing, counts_refused, scan_fits, counts_fit, clauses_refused, fill_fits, filed}
+use Rattle.dimacs.proofs.FileRead.{too_long_lem, header_missing, counts_refused, scan_fits, counts_fit, clauses_refused, fill_fits, filed}
 use Rattle.dimacs.proofs.read.Goals as goal
 
 pub returns-then-text-gt60000 : goal.returns-then-text-gt60000
-returns-then-text-gt60000 c = too_long c.if-text-gt60000.true
+returns-then-text-gt60000 c = too_long_lem c.if-text-gt60000.true
 
 pub scan-requires : goal.scan-requires
 scan-requires c =

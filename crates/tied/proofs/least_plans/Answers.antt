@@ -1,7 +1,7 @@
 -- `least_plans` meets its contract: each of its six ways out is a law of Calls. Assumes nothing.
 use mathlib.Core.Path.{◌≡◌, ◌∙◌, ap}
 use mathlib.Core.List.{List}
-use Prim.Native.Nat.{ℕ}
+use Prim.Native.Nat.{ℕ, ◌≤◌}
 use native.Mathlib.Omega.{arith}
 use lib.ListN.{length, replicate, length-replicate}
 use Rattle.tied.proofs.Calls.{call_many, call_small, call_end, call_listed, call_short, call_none, call_spent, call_refused}
@@ -16,18 +16,18 @@ returns-then-equal-gt256 c = search call_many
 
 pub overflow_mul-end : goal.overflow_mul-end
 overflow_mul-end c =
-    omega (arith, call_small _ _ c.args.room.now _ _ _ c.ties_of.ensures c.in-Best.is c.if-equal-gt256.false)
+    omega (arith, call_small _ _ c.args.room.now _ _ _ c.ties_of.ensures c.in-Best.is (omega arith))
 
 pub slice_bounds-put_in_order-end : goal.slice_bounds-put_in_order-end
-slice_bounds-put_in_order-end c = search call_end
+slice_bounds-put_in_order-end c = let few : c.in-Best.equal ≤ 256 = omega arith in search call_end
 
 pub returns-then-put_in_order : goal.returns-then-put_in_order
 returns-then-put_in_order c =
-    call_listed _ _ _ _ _ _ c.ties_of.ensures c.in-Best.is c.if-equal-gt256.false (long c.ties_room-run.ensures) c.put_in_order.ensures c.if-put_in_order.true
+    call_listed _ _ _ _ _ _ c.ties_of.ensures c.in-Best.is (omega arith) (long c.ties_room-run.ensures) c.put_in_order.ensures c.if-put_in_order.true
 
 pub returns-else-put_in_order : goal.returns-else-put_in_order
 returns-else-put_in_order c =
-    call_short _ _ _ _ _ _ c.ties_of.ensures c.in-Best.is c.if-equal-gt256.false (long c.ties_room-run.ensures) c.put_in_order.ensures c.if-put_in_order.false
+    call_short _ _ _ _ _ _ c.ties_of.ensures c.in-Best.is (omega arith) (long c.ties_room-run.ensures) c.put_in_order.ensures c.if-put_in_order.false
 
 pub returns-in-None : goal.returns-in-None
 returns-in-None c = search call_none

@@ -18,11 +18,14 @@ within few e = omega (arith, room_long e)
 pub run-requires : goal.run-requires
 run-requires c = search ready_best
 
+-- It holds of the room of the plan as of that of what is kept.
 pub slice_bounds-write_plan-end : goal.slice_bounds-write_plan-end
 slice_bounds-write_plan-end c =
     let few = c.requires.devices in
     omega (
       arith,
+      room_long c.plan_room-plan.ensures,
+      back_long c.plan_room-plan.result c.run.new.plan (length c.args.costs.now) (within few c.plan_room-plan.ensures) c.run.auto.plan,
       room_long c.plan_room-kept.ensures,
       back_long c.plan_room-kept.result c.run.new.kept (length c.args.costs.now) (within few c.plan_room-kept.ensures) c.run.auto.kept,
     )
