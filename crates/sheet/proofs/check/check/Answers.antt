@@ -20,7 +20,9 @@ pub returns-in-Bad-count_at : goal.returns-in-Bad-count_at
 returns-in-Bad-count_at c = let few : length c.args.words.now ≤ 16384 = omega arith in search count_bad_too
 
 pub overflow_add-behind : goal.overflow_add-behind
-overflow_add-behind c = record { fits = search count_next }
+overflow_add-behind c =
+    let few : length c.args.words.now ≤ 16384 = omega arith in
+    record { fits = search count_next }
 
 pub overflow_cast-n : goal.overflow_cast-n
 overflow_cast-n c =
