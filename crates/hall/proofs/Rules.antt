@@ -2,10 +2,10 @@
 --
 --     branch         1. a rule that q meets, and p, which q extends, does not, has a first entry that q holds; its device is
 --                       free under p
---     meets-mono     2. a rule that is met stays met
---     held-meets     3. a rule with an entry that is held is met
---     unheld-unmet   4. a rule none of whose entries is held, and which does not name both positions of a device, is not met
---     both-met       5. a rule that names both positions of a device is met
+--     meets_mono     2. a rule that is met stays met
+--     held_meets     3. a rule with an entry that is held is met
+--     unheld_unmet   4. a rule none of whose entries is held, and which does not name both positions of a device, is not met
+--     both_met       5. a rule that names both positions of a device is met
 --
 -- For the two readings (Readings) and the encoding of crates/rails alone: a rule that does not is met where 01's own wording says so
 -- (`one_way_meets`).

@@ -1,12 +1,12 @@
 -- THE LAWS OF `shut`, what closes a node: all that is known of it, in this crate and in those above.
 --
---     shut-covers   1. where a plan that does not meet every rule is shut, no plan that extends it and does is better than the
+--     shut_covers   1. where a plan that does not meet every rule is shut, no plan that extends it and does is better than the
 --                      best so far
---     not-shut      2. a plan that costs no more than the best so far and holds fewer devices is not shut
+--     not_shut      2. a plan that costs no more than the best so far and holds fewer devices is not shut
 --     shut_none     3. where there is no best so far, no plan is shut
---     shut-best     4. where there is one, a plan is shut by its two numbers and the best's
---     shut-without  5. the rules that every plan meets shut no plan
---     shut-beats    6. where a plan that does not meet every rule is shut, the best so far beats each plan that extends it and does: it
+--     shut_best     4. where there is one, a plan is shut by its two numbers and the best's
+--     shut_without  5. the rules that every plan meets shut no plan
+--     shut_beats    6. where a plan that does not meet every rule is shut, the best so far beats each plan that extends it and does: it
 --                      costs less, or the same and holds fewer devices
 --
 -- The walk's theorems know 1, 2 and 6, from which 1 follows; 3 to 5 are for the code that asks. Another test for closing a node is paid

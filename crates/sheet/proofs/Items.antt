@@ -1,7 +1,7 @@
 -- One word: what the code tells of it, and what its reader gives.
 --
 -- In order: a word by its place, its sign split off (`no_word`, `word_split`); from a word and its sign to the number or the entry that
--- it is read as (`number-..`, `entry-..`), and to what stands on a good sheet (`value-..`, `code-..`); a reader of one word, by what
+-- it is read as (`number_..`, `entry_..`), and to what stands on a good sheet (`value_..`, `code_..`); a reader of one word, by what
 -- was told (`told_missing`, `told_outside`, `told_is`). Assumes nothing.
 use mathlib.Core.Path.{◌≡◌, refl, sym, ◌∙◌, ap}
 use mathlib.Core.Bool.{Bool, true, false}

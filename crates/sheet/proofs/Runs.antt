@@ -1,7 +1,7 @@
 -- A run of readings: while words are left, what the rest of the run answers is what the whole of it answers.
 --
 -- In order: any reader (`run_bad`, `run_on`, `run_done`); a run of single words, by what was told of each (`word_missing`,
--- `word_outside`, `word_on`): of costs (`cost-..`), of entries (`entry-..`); a word that was told a number stands on the sheet
+-- `word_outside`, `word_on`): of costs (`cost_..`), of entries (`entry_..`); a word that was told a number stands on the sheet
 -- (`told_inside`). Assumes nothing.
 use mathlib.Core.Path.{◌≡◌, refl, sym, ◌∙◌, ap}
 use mathlib.Core.List.{List, ◌∷◌}

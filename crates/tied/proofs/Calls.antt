@@ -1,8 +1,8 @@
 -- From what the walk of the sheet finds, and the plans put in order, to the contract of `least_plans`.
 --
 -- In order: a list that is known, as the contract (`listed_as`); where a best plan was found, what is known of it and of the plans that tie
--- (`Finished`, `finished`); more than 256 of them (`call_many`); else they lie in front of the room of our own (`call_small`, `call_end`,
--- `in_front_lem`), and putting them in order leaves the list's plans, which have place in the caller's room (`call_listed`) or not
+-- (`Finished`, `finished`); more than 256 of them (`call_many`); else they lie in front of the room of our own (`call_small`, `call_end`),
+-- and putting them in order leaves the list's plans, which have place in the caller's room (`call_listed`) or not
 -- (`call_short`); the other cases (`call_none`, `call_spent`, `call_refused`). Assumes nothing.
 use mathlib.Core.Path.{◌≡◌, refl, sym, ◌∙◌, ap, subst}
 use mathlib.Core.Logic.{◌⊎◌, inl, inr}

@@ -3,7 +3,7 @@
 -- In order: the measure (`remaining`, `falls_child`); what a node hands on (`openable`, `few_held`, `small_child`, `next_node`,
 -- `child_node`); the entries of a rule: what is kept from entry to entry (`Partway`, `partway_none`), none is left (`walked_all`), one
 -- whose device is held (`passed_held`), one whose child was walked (`Tried`: `tried_spent`, `tried_on`); a node that was opened:
--- stopped, without children, or branching (`walked_stopped`, `walked_leaf`, `branch-..`, `walked_branch`). Assumes nothing.
+-- stopped, without children, or branching (`walked_stopped`, `walked_leaf`, `branch_..`, `walked_branch`). Assumes nothing.
 use mathlib.Core.Path.{◌≡◌, refl, sym, ap, ◌∙◌}
 use mathlib.Core.Bool.{true, false}
 use mathlib.Core.List.{List, ◌∷◌, append-nil, append_assoc}

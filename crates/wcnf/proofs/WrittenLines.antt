@@ -3,7 +3,7 @@
 -- In order: a line is what starts it, its literals and ` 0` with byte 10 (`clause_line_lem`, `clause_puts`); the entries of a rule
 -- in their variables, by their codes (`entry_put`, `entries_end`); the rules (`Ruling`, `ruling_none`, `ruling_length`,
 -- `start_there`, `end_there`, `rule_there`, `ruling_more`, `ruling_all`); the pair of a device (`pair_puts`) and all pairs
--- (`pairs_more`, `pairs_end`); a denial (`denial_puts`), the two of a device (`free_puts`, `denials-puts`) and all of them
+-- (`pairs_more`, `pairs_end`); a denial (`denial_puts`), the two of a device (`free_puts`, `denials_put`) and all of them
 -- (`costs_more`, `costs_end`); the three kinds of clauses one behind the other (`clauses_put`). Assumes nothing.
 use mathlib.Core.Path.{◌≡◌, refl, sym, ◌∙◌, ap}
 use mathlib.Core.List.{List, [], ◌∷◌, ◌++◌, append_assoc, append-nil}
