@@ -1,3 +1,4 @@
+-- `full` is proved: every place that it writes lies in the array. The measure: the places left.
 use Prim.Native.Nat.{◌-◌}
 use Rattle.damaged.proofs.sheets.full.Given as goal
 

@@ -1,3 +1,4 @@
+-- `prefixes` is proved: each prefix lies in the sheet, and the next one is longer. The measure: the prefixes left.
 use Prim.Native.Nat.{◌-◌}
 use Rattle.damaged.proofs.sheets.prefixes.Given as goal
 

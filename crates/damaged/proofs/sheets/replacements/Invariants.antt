@@ -1,3 +1,4 @@
+-- `replacements` is proved: each word replaced lies in the sheet. The measure: the words left.
 use Prim.Native.Nat.{◌-◌}
 use Rattle.damaged.proofs.sheets.replacements.Given as goal
 
