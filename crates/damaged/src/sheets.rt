@@ -18,36 +18,20 @@ fn try_sheet(rt: &HostRuntime, words: &[i32], room: usize) -> io::Result<()> {
 // Every prefix, from no words to the whole sheet.
 pub(crate) fn prefixes(rt: &HostRuntime) -> io::Result<()> {
     let words = FOUR;
-    let mut k: usize = 0;
-    while k <= 15 {
+    for k in 0..16 {
         try_sheet(rt, &words[0..k], 200)?;
-        k += 1;
-    }
-    Ok(())
-}
-
-fn replaced(rt: &HostRuntime, i: usize, word: i32) -> io::Result<()> {
-    let mut words = FOUR;
-    if i < 15 {
-        words[i] = word;
-        try_sheet(rt, &words, 200)?;
     }
     Ok(())
 }
 
 // Each word replaced by each of eight.
 pub(crate) fn replacements(rt: &HostRuntime) -> io::Result<()> {
-    let mut i: usize = 0;
-    while i < 15 {
-        replaced(rt, i, -2147483648)?;
-        replaced(rt, i, -1)?;
-        replaced(rt, i, 0)?;
-        replaced(rt, i, 33)?;
-        replaced(rt, i, 201)?;
-        replaced(rt, i, 2001)?;
-        replaced(rt, i, 1000000001)?;
-        replaced(rt, i, 2147483647)?;
-        i += 1;
+    for i in 0..15 {
+        for word in [-2147483648, -1, 0, 33, 201, 2001, 1000000001, 2147483647] {
+            let mut words = FOUR;
+            words[i] = word;
+            try_sheet(rt, &words, 200)?;
+        }
     }
     Ok(())
 }
@@ -88,10 +72,8 @@ fn full_word(k: usize) -> i32 {
 
 fn full() -> [i32; 16385] {
     let mut words = [0i32; 16385];
-    let mut k: usize = 0;
-    while k < 16385 {
-        words[k] = full_word(k);
-        k += 1;
+    for (k, word) in words.iter_mut().enumerate() {
+        *word = full_word(k);
     }
     words
 }

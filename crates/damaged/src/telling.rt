@@ -1,74 +1,46 @@
 // How an answer is printed.
-use refusals::Refusal;
-use sheet::Sheet;
+use refusals::{Kind, Refusal, Refused};
+use sheet::Size;
 use std::io;
-use typed::Reading;
+use typed::Mistake;
 
-fn number(rt: &HostRuntime, n: u64) -> io::Result<()> {
-    print!(rt; " {n}")
-}
-
-fn word(rt: &HostRuntime, w: i32) -> io::Result<()> {
-    if w < 0 {
-        let size = (-(w + 1)) as u64 + 1;
-        print!(rt; " -{size}")?;
-    } else {
-        number(rt, w as u64)?;
-    }
-    Ok(())
-}
-
-// The numbers of a refusal: `refused CODE PLACE`, for a width `refused 19 PLACE RULE`.
-fn tell_refusal(rt: &HostRuntime, kind: Refusal, place: usize) -> io::Result<()> {
-    let mut numbers = [0u64; 4];
-    let count = refusals::numbers_of(kind, place, &mut numbers);
+// The numbers of a refusal: `refused CODE PLACE`, for a width `refused 19 PLACE RULE`. `rows` has the same: a crate for these lines alone,
+// or an `impl Display` in `refusals`, would be no plainer, and public code that no contract speaks of.
+fn tell_refusal<K: Kind>(rt: &HostRuntime, refused: Refused<K>) -> io::Result<()> {
+    let mut numbers = [0; 4];
+    let count = refused.tell(&mut numbers);
     print!(rt; "refused")?;
-    number(rt, numbers[0])?;
-    number(rt, numbers[1])?;
-    if count == 3 {
-        number(rt, numbers[2])?;
+    for n in &numbers[..count] {
+        print!(rt; " {n}")?;
     }
     Ok(())
 }
 
 // `hall DEVICES RULES`, or a refusal.
-pub(crate) fn tell_sheet(rt: &HostRuntime, answer: Sheet) -> io::Result<()> {
+pub(crate) fn tell_sheet(
+    rt: &HostRuntime,
+    answer: Result<Size, Refused<Refusal>>,
+) -> io::Result<()> {
     match answer {
-        Sheet::Hall(n, m) => {
-            print!(rt; "hall")?;
-            number(rt, n as u64)?;
-            number(rt, m as u64)?;
-        }
-        Sheet::Refused(kind, place) => {
-            tell_refusal(rt, kind, place)?;
-        }
+        Ok(Size { devices, rules }) => print!(rt; "hall {devices} {rules}")?,
+        Err(refused) => tell_refusal(rt, refused)?,
     }
     print!(rt; "\n")
 }
 
-fn tell_words(rt: &HostRuntime, room: &[i32]) -> io::Result<()> {
-    let mut i: usize = 0;
-    while i < room.len() {
-        word(rt, room[i])?;
-        i += 1;
-    }
-    Ok(())
-}
-
 // `words W` or `refused CODE PLACE`, then the room afterwards.
-pub(crate) fn tell_text(rt: &HostRuntime, answer: Reading, room: &[i32]) -> io::Result<()> {
+pub(crate) fn tell_text(
+    rt: &HostRuntime,
+    answer: Result<usize, Refused<Mistake>>,
+    room: &[i32],
+) -> io::Result<()> {
     match answer {
-        Reading::Words(w) => {
-            print!(rt; "words")?;
-            number(rt, w as u64)?;
-        }
-        Reading::Refused(mistake, place) => {
-            print!(rt; "refused")?;
-            number(rt, typed::code_of(mistake) as u64)?;
-            number(rt, place as u64)?;
-        }
+        Ok(count) => print!(rt; "words {count}")?,
+        Err(refused) => tell_refusal(rt, refused)?,
     }
     print!(rt; ", room")?;
-    tell_words(rt, room)?;
+    for word in room {
+        print!(rt; " {word}")?;
+    }
     print!(rt; "\n")
 }

@@ -9,12 +9,14 @@ use Prim.Native.Nat.{ℕ, ◌≤◌}
 use native.Mathlib.Omega.{arith}
 use lib.ListN.{length, take, replicate, length-replicate}
 use lib.IntN.{ℤ}
+use Rattle.std.proofs.Common.{Result}
+use Rattle.refusals.specs.declared.Refused.{Refused}
 use Rattle.lists.specs.Lists.{Each}
 use Rattle.lists.proofs.Each.{each_replicate}
 use Rattle.lists.proofs.InFront.{front_stands}
 use Rattle.hall.specs.Hall.{Hall}
 use Rattle.hall.specs.Ranges.{RuleInRange, HallInRange, words, SheetOf}
-use Rattle.dimacs.specs.declared.Filed.{Filed}
+use Rattle.dimacs.specs.declared.Flaw.{Flaw}
 use Rattle.dimacs.specs.Stage.{inside, sheet_so_far}
 use Rattle.dimacs.specs.File.{Parsed, refused, file, read_file}
 use Rattle.dimacs.specs.Standing.{Accepted}
@@ -55,13 +57,13 @@ justified text before after (refused f i) v room = v
 justified text before after (file h) v room =
     record { hall = h; accepted = v; sheet = accepted_sheet v (ap (take (length (words h))) room ∙ front_stands (words h) before) }
 
-pub files_so : {text : List ℕ} {before after : List ℤ} {r : Filed} → r ≡ filed_of (read_file text (length before))
+pub files_so : {text : List ℕ} {before after : List ℤ} {r : Result ℕ (Refused Flaw)} → r ≡ filed_of (read_file text (length before))
     → after ≡ room_after (read_file text (length before)) before
     → Files text before r after
 files_so {text} {before} {after} e room = record {
   says = ap numbers_of e;
   room = room;
   reason =
-      subst (λ (r : Filed). Justified text (length before) r after) (sym e)
+      subst (λ (r : Result ℕ (Refused Flaw)). Justified text (length before) r after) (sym e)
       (justified text before after (read_file text (length before)) (verdict text (length before)) room);
 }

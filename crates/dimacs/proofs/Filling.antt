@@ -1,17 +1,20 @@
 -- The second pass over the clauses: the rules written so far stand in front of the room, and what is left is read without a flaw.
 --
 -- In order: what the loop knows (`Filling`), at its start (`filling_start`), at its end (`filling_end`), that it meets no flaw
--- (`filling_never`, `filling_outside`); what a number does (`filling_zero`, `filling_device`) and needs (`close_room`, `entry_room`), and
+-- (`filling_never`, `filling_reads`, `filling_outside`); what a number does (`filling_zero`, `filling_device`) and needs (`close_room`, `entry_room`), and
 -- the loop with one number more (`filling_closes`, `filling_enters`). Assumes nothing.
-use mathlib.Core.Path.{◌≡◌, refl, sym, ◌∙◌, ap, subst}
+use mathlib.Core.Path.{◌≡◌, refl, sym, ◌∙◌, ap}
 use mathlib.Core.Bool.{Bool, true, false, cond}
 use mathlib.Core.List.{List, [], ◌∷◌, ◌++◌, append-nil}
 use Prim.Native.Nat.{ℕ, zero, suc, ◌+◌, ◌≤◌, ◌<◌}
 use native.Mathlib.Omega.{arith}
-use lib.ListN.{length, get_or, drop, set, length-append, length-set, take-append-drop}
+use lib.ListN.{length, get_or, drop, set, length-append, take-append-drop}
 use lib.IntN.{ℤ, pos}
 use lib.Dec.{leb, ltb}
 use borrow.Author.Tests.{ltb-false}
+use Rattle.std.specs.Result.{IsOk}
+use Rattle.std.proofs.Common.{Option, Some, None, Result, Ok, Err}
+use Rattle.refusals.specs.declared.Refused.{Refused}
 use Rattle.lists.specs.Lists.{in_front}
 use Rattle.hall.specs.Hall.{Rule, Hall}
 use Rattle.hall.specs.Ranges.{rule_words, words}
@@ -19,23 +22,21 @@ use Rattle.refusals.specs.declared.Refusal.TheVariants.{BadEntry, BadWidth}
 use Rattle.typed.specs.Text.{tokens_at}
 use Rattle.typed.specs.Next.{next_of}
 use Rattle.typed.specs.declared.Mistake.{Mistake}
-use Rattle.typed.specs.declared.Next.{Next}
-use Rattle.typed.specs.declared.Next.TheVariants.{End, Found}
-use Rattle.typed.specs.declared.Next.TheVariants.{Bad as Mistaken}
+use Rattle.typed.specs.declared.Found.{Found}
 use Rattle.typed.proofs.Splitting.{FoundWord, next_end, next_found, next_bad}
 use Rattle.dimacs.specs.declared.Flaw.{Flaw}
 use Rattle.dimacs.specs.declared.Flaw.TheVariants.{Sheet, NotClosed, ExtraToken}
 use Rattle.dimacs.specs.declared.clauses.Named.{Named}
 use Rattle.dimacs.specs.declared.clauses.Named.TheVariants.{Zero, Device, Outside}
 use Rattle.dimacs.specs.declared.clauses.Judged.{Judged}
-use Rattle.dimacs.specs.declared.clauses.Judged.TheVariants.{Closes, Enters, Bad}
+use Rattle.dimacs.specs.declared.clauses.Judged.TheVariants.{Closes, Enters}
 use Rattle.dimacs.specs.Stage.{inside, unit_hall}
 use Rattle.dimacs.specs.File.{Parsed, refused, file, limit_of, read_numbers}
 use Rattle.dimacs.specs.Contract.{room_after}
-use Rattle.dimacs.specs.Steps.{named_of, room_for, judged_by, judged_of, FillFits}
+use Rattle.dimacs.specs.Steps.{named_of, room_for, judged_by, FillFits}
 use Rattle.dimacs.proofs.Limits.{limit_holds}
 use Rattle.dimacs.proofs.SoFar.{closed_words, rule_long, closed_more, close_long, enter_long, all_closed, counts_long, hall_words}
-use Rattle.dimacs.proofs.Stepping.{numbers_end, numbers_bad, numbers_on}
+use Rattle.dimacs.proofs.Stepping.{numbers_end, numbers_bad, found_on}
 use Rattle.dimacs.proofs.Scanning.{Closing, Entering, Does, does}
 use Rattle.dimacs.proofs.Putting.{open_as, width_written, entry_written}
 
@@ -48,13 +49,11 @@ pub record Filling (text : List ℕ) (from n m : ℕ) (before : List ℤ) (at wi
   pub size : head ≡ length (closed_words n m rules)
   pub narrow : width ≤ 32
   pub last : 1 ≤ width → length rules < m
-  pub within : head ≤ length before
   pub short : head ≤ 16384
   pub few : length rules ≤ m
   pub rest :
       read_numbers (limit_of (length before)) (length text) (inside n m rules entries) (tokens_at text at) ≡ file fits.hall
   pub stands : now ≡ in_front (closed_words n m rules ++ open_as (get_or before head (pos 0)) entries) before
-  pub same : length now ≡ length before
 
 limit_room : (room : ℕ) → limit_of room ≤ room
 limit_room room = ((limit_holds room (limit_of room)).0 (omega arith)).0
@@ -70,7 +69,6 @@ filling_start {text} {from} {n} {m} {before} f =
       size = sym long;
       narrow = omega arith;
       last = λ h. absurd (omega arith);
-      within = omega (arith, f.scan.fits, limit_room (length before));
       short = omega (arith, f.scan.fits, f.scan.short);
       few = omega arith;
       rest = f.read;
@@ -79,29 +77,31 @@ filling_start {text} {from} {n} {m} {before} f =
           ∙ ap (λ (l : List ℤ). l ++ drop (n + 2) before) (f.counts ∙ all_closed n m [])
           ∙ ap (λ (k : ℕ). closed_words n m [] ++ drop k before) (sym long)
           ∙ ap (λ (l : List ℤ). in_front l before) (sym (append-nil (closed_words n m [])));
-      same = refl;
     }
 
 -- no file is refused
 no_refusal : {A : Type 0} {f : Flaw} {place : ℕ} {h : Hall} → refused f place ≡ file h → A
-no_refusal e = absurd (let k : ◌≡◌ {A = ℕ} 0 1 = cc in omega arith)
+no_refusal e = absurd (cc)
 
-module _ {text : List ℕ} {from n m : ℕ} {before : List ℤ} {at width head : ℕ} {now : List ℤ} (g : Filling text from n m before at width head now) {r : Next}
-    (h : r ≡ next_of (tokens_at text at)) where
-  pub filling_never : {mistake : Mistake} {place : ℕ} → r ≡ Mistaken mistake place → ⊥
-  filling_never {mistake} {place} e =
-      let f = next_bad text at h e in
+module _ {text : List ℕ} {from n m : ℕ} {before : List ℤ} {at width head : ℕ} {now : List ℤ} (g : Filling text from n m before at width head now) where
+  pub filling_never : {A : Type 0} {r : Refused Mistake} → Err r ≡ next_of (tokens_at text at) → A
+  filling_never {r = r} e =
+      let f = next_bad text at e in
       no_refusal
       (sym
       (ap (read_numbers (limit_of (length before)) (length text) (inside n m g.rules g.entries)) f.first
-      ∙ numbers_bad (limit_of (length before)) (length text) (inside n m g.rules g.entries) f.token f.rest mistake place f.says)
+      ∙ numbers_bad (limit_of (length before)) (length text) (inside n m g.rules g.entries) f.token f.rest r.kind r.place f.says)
       ∙ g.rest)
 
-  pub filling_end : r ≡ End → now ≡ room_after (read_numbers (limit_of (length before)) (length text) (inside n m [] []) (tokens_at text from)) before
+  pub filling_reads : {r : Result (Option Found) (Refused Mistake)} → r ≡ next_of (tokens_at text at) → IsOk r
+  filling_reads {r = Ok o} e = refl
+  filling_reads {r = Err m} e = filling_never e
+
+  pub filling_end : Ok None ≡ next_of (tokens_at text at) → now ≡ room_after (read_numbers (limit_of (length before)) (length text) (inside n m [] []) (tokens_at text from)) before
   filling_end e =
       go (ltb (length g.rules) m) refl
       (sym
-      (ap (read_numbers (limit_of (length before)) (length text) (inside n m g.rules g.entries)) (next_end text at h e)
+      (ap (read_numbers (limit_of (length before)) (length text) (inside n m g.rules g.entries)) (next_end text at e)
       ∙ numbers_end (limit_of (length before)) (length text) (inside n m g.rules g.entries))
       ∙ g.rest)
     where
@@ -130,66 +130,52 @@ module _ {text : List ℕ} {from n m : ℕ} {before : List ℤ} {at width head :
           (append-nil (closed_words n m g.rules) ∙ ap (λ (k : ℕ). closed_words n k g.rules) all ∙ sym (hall_words n g.rules) ∙ ap words hall)
           ∙ sym (ap (λ (x : Parsed). room_after x before) g.fits.read)
 
-  module _ {z : ℤ} {start end : ℕ} (e : r ≡ Found z start end) where
-    pub filling_word : FoundWord text at z start end
-    filling_word = next_found text at h e
+  module _ {found : Found} (e : Ok (Some found) ≡ next_of (tokens_at text at)) where
+    pub filling_word : FoundWord text at found
+    filling_word = next_found text at e
 
-    abbrev DoesHere : Judged → Type 0
-    DoesHere = Does n m (limit_of (length before)) (length text) g.rules g.entries z
+    abbrev DoesHere : Result Judged Flaw → Type 0
+    DoesHere = Does n m (limit_of (length before)) (length text) g.rules g.entries found.word
 
     -- a number that is refused is none of theirs
-    refuses : {A : Type 0} {f : Flaw} → DoesHere (Bad f) → A
+    refuses : {A : Type 0} {f : Flaw} → DoesHere (Err f) → A
     refuses d =
         let w = filling_word in
         no_refusal
         (sym
         (ap (read_numbers (limit_of (length before)) (length text) (inside n m g.rules g.entries)) w.first
-        ∙ d w.token (tokens_at text end) w.says)
+        ∙ d w.token (tokens_at text found.end) w.says)
         ∙ g.rest)
 
     -- the code names what the machine reads back from the number's bits
-    module _ {y : ℤ} (same : y ≡ z) {name : Named} (q : name ≡ named_of n y) where
+    module _ {y : ℤ} (same : y ≡ found.word) {name : Named} (q : name ≡ named_of n y) where
       judged : {x : Named} → name ≡ x → (b : Bool) → leb m (length g.rules) ≡ b
           → DoesHere
-          (cond b (Bad ExtraToken)
+          (cond b (Err ExtraToken)
           (judged_by (limit_of (length before)) (length g.rules) (length g.entries) (length (closed_words n m g.rules)) x))
-      unfolding judged_of
-      judged u b t =
-          subst
-          (λ (x : Named).
-          DoesHere
-          (cond b (Bad ExtraToken)
-          (judged_by (limit_of (length before)) (length g.rules) (length g.entries) (length (closed_words n m g.rules)) x)))
-          (sym (q ∙ ap (named_of n) same) ∙ u)
-          (subst
-          (λ (b : Bool).
-          DoesHere
-          (cond b (Bad ExtraToken)
-          (judged_by (limit_of (length before)) (length g.rules) (length g.entries) (length (closed_words n m g.rules)) (named_of n z))))
-          t
-          (does n m (limit_of (length before)) (length text) g.rules g.entries z))
+      judged u b t = rw (← u, q, same, ← t) (does n m (limit_of (length before)) (length text) g.rules g.entries found.word)
 
       pub filling_outside : {A : Type 0} → name ≡ Outside → A
       filling_outside {A} u = go (leb m (length g.rules)) (judged u (leb m (length g.rules)) refl)
         where
-          go : (b : Bool) → DoesHere (cond b (Bad ExtraToken) (Bad (Sheet BadEntry))) → A
+          go : (b : Bool) → DoesHere (cond b (Err ExtraToken) (Err (Sheet BadEntry))) → A
           go true d = refuses d
           go false d = refuses d
 
-      pub filling_zero : name ≡ Zero → Closing n m (limit_of (length before)) (length text) g.rules g.entries z
+      pub filling_zero : name ≡ Zero → Closing n m (limit_of (length before)) (length text) g.rules g.entries found.word
       filling_zero u = go (leb m (length g.rules)) (leb _ (limit_of (length before))) (judged u (leb m (length g.rules)) refl)
         where
-          go : (b t : Bool) → DoesHere (cond b (Bad ExtraToken) (room_for t Closes)) → Closing n m (limit_of (length before)) (length text) g.rules g.entries z
+          go : (b t : Bool) → DoesHere (cond b (Err ExtraToken) (room_for t Closes)) → Closing n m (limit_of (length before)) (length text) g.rules g.entries found.word
           go true t d = refuses d
           go false true d = d
           go false false d = refuses d
 
-      pub filling_device : name ≡ Device → Entering n m (limit_of (length before)) (length text) g.rules g.entries z
+      pub filling_device : name ≡ Device → Entering n m (limit_of (length before)) (length text) g.rules g.entries found.word
       filling_device u =
           go (leb m (length g.rules)) (ltb (length g.entries) 32) (leb _ (limit_of (length before))) _ (judged u (leb m (length g.rules)) refl)
         where
-          go : (b w t : Bool) (k : ℕ) → DoesHere (cond b (Bad ExtraToken) (cond w (room_for t Enters) (Bad (Sheet (BadWidth k)))))
-              → Entering n m (limit_of (length before)) (length text) g.rules g.entries z
+          go : (b w t : Bool) (k : ℕ) → DoesHere (cond b (Err ExtraToken) (cond w (room_for t Enters) (Err (Sheet (BadWidth k)))))
+              → Entering n m (limit_of (length before)) (length text) g.rules g.entries found.word
           go true w t k d = refuses d
           go false true true k d = d
           go false true false k d = refuses d
@@ -202,11 +188,11 @@ module _ {text : List ℕ} {from n m : ℕ} {before : List ℤ} {at width head :
       pub entry_room : name ≡ Device → head + width + 2 ≤ length before
       entry_room u = let d = filling_device u in omega (arith, d.fits, g.size, g.wide, limit_room (length before))
 
-      pub filling_closes : name ≡ Zero → {v : ℤ} → v ≡ pos width → Filling text from n m before end 0 (head + width + 1) (set now head v)
+      pub filling_closes : name ≡ Zero → {v : ℤ} → v ≡ pos width → Filling text from n m before found.end 0 (head + (width + 1)) (set now head v)
       filling_closes u {v} p =
           let w = filling_word in
           let d = filling_zero u in
-          let long : head + width + 1 ≡ length (closed_words n m (g.rules ++ (g.entries ∷ []))) =
+          let long : head + (width + 1) ≡ length (closed_words n m (g.rules ++ (g.entries ∷ []))) =
           omega
           (arith, g.size, g.wide, ap length (closed_more n m g.rules g.entries), length-append (closed_words n m g.rules) (rule_words g.entries), rule_long g.entries) in
           record {
@@ -217,30 +203,19 @@ module _ {text : List ℕ} {from n m : ℕ} {before : List ℤ} {at width head :
             size = long;
             narrow = omega arith;
             last = λ l. absurd (omega arith);
-            within = close_room u;
             short = omega (arith, d.fits, g.size, g.wide, g.fits.scan.short);
             few = omega (arith, d.declared, length-append g.rules (g.entries ∷ []));
             rest =
                 sym
-                (ap (read_numbers (limit_of (length before)) (length text) (inside n m g.rules g.entries)) w.first
-                ∙ numbers_on (limit_of (length before)) (length text) (inside n m g.rules g.entries) w.token (tokens_at text end) z w.says
-                (inside n m (g.rules ++ (g.entries ∷ [])) [])
-                d.takes
-                (omega (arith, close_long n m g.rules g.entries, d.fits)))
+                (found_on text _ _ w.first w.says (limit_of (length before)) (inside n m g.rules g.entries) _ d.takes (omega (arith, close_long n m g.rules g.entries, d.fits)))
                 ∙ g.rest;
             stands =
-                ap (λ (room : List ℤ). set room head v) g.stands
-                ∙ ap (set (in_front (closed_words n m g.rules ++ open_as (get_or before head (pos 0)) g.entries) before) head) (p ∙ ap pos g.wide)
-                ∙ ap
-                (λ (k : ℕ).
-                set (in_front (closed_words n m g.rules ++ open_as (get_or before k (pos 0)) g.entries) before) k (pos (length g.entries)))
-                g.size
-                ∙ width_written (closed_words n m g.rules) before (omega (arith, g.size, close_room u)) g.entries
-                ∙ ap (λ (l : List ℤ). in_front l before) (sym (append-nil (closed_words n m (g.rules ++ (g.entries ∷ []))) ∙ closed_more n m g.rules g.entries));
-            same = length-set now head v ∙ g.same;
+                rw (g.stands, p, g.wide, g.size)
+                (width_written (closed_words n m g.rules) before (omega (arith, g.size, close_room u)) g.entries
+                ∙ ap (λ (l : List ℤ). in_front l before) (sym (append-nil (closed_words n m (g.rules ++ (g.entries ∷ []))) ∙ closed_more n m g.rules g.entries)));
           }
 
-      pub filling_enters : name ≡ Device → {v : ℤ} → v ≡ z → Filling text from n m before end (width + 1) head (set now (head + width + 1) v)
+      pub filling_enters : name ≡ Device → {v : ℤ} → v ≡ found.word → Filling text from n m before found.end (width + 1) head (set now (head + width + 1) v)
       filling_enters u {v} p =
           let w = filling_word in
           let d = filling_device u in
@@ -252,30 +227,13 @@ module _ {text : List ℕ} {from n m : ℕ} {before : List ℤ} {at width head :
             size = g.size;
             narrow = omega (arith, g.wide, d.narrow);
             last = λ l. d.declared;
-            within = g.within;
             short = g.short;
             few = g.few;
             rest =
                 sym
-                (ap (read_numbers (limit_of (length before)) (length text) (inside n m g.rules g.entries)) w.first
-                ∙ numbers_on (limit_of (length before)) (length text) (inside n m g.rules g.entries) w.token (tokens_at text end) z w.says
-                (inside n m g.rules (g.entries ++ (d.e ∷ [])))
-                d.takes
-                (omega (arith, enter_long n m g.rules g.entries d.e, d.fits)))
+                (found_on text _ _ w.first w.says (limit_of (length before)) (inside n m g.rules g.entries) _ d.takes (omega (arith, enter_long n m g.rules g.entries d.e, d.fits)))
                 ∙ g.rest;
             stands =
-                ap (λ (room : List ℤ). set room (head + width + 1) v) g.stands
-                ∙ ap (set (in_front (closed_words n m g.rules ++ open_as (get_or before head (pos 0)) g.entries) before) (head + width + 1)) p
-                ∙ ap
-                (λ (k : ℕ).
-                set (in_front (closed_words n m g.rules ++ open_as (get_or before head (pos 0)) g.entries) before) (head + k + 1) z)
-                g.wide
-                ∙ ap
-                (λ (k : ℕ).
-                set (in_front (closed_words n m g.rules ++ open_as (get_or before k (pos 0)) g.entries) before) (k + length g.entries + 1) z)
-                g.size
-                ∙ entry_written (closed_words n m g.rules) before (omega (arith, g.size, entry_room u)) g.entries d.e d.word
-                (omega (arith, g.size, g.wide, entry_room u))
-                ∙ ap (λ (k : ℕ). in_front (closed_words n m g.rules ++ open_as (get_or before k (pos 0)) (g.entries ++ (d.e ∷ []))) before) (sym g.size);
-            same = length-set now (head + width + 1) v ∙ g.same;
+                simp (g.stands, p, g.wide, g.size)
+                (entry_written (closed_words n m g.rules) before (omega (arith, g.size, entry_room u)) g.entries d.e d.word (omega (arith, g.size, g.wide, entry_room u)));
           }

@@ -21,7 +21,6 @@ pub mod WrittenBack
 pub mod LeadEnds
 pub mod HeaderWords
 pub mod CountsRead
-pub mod Judgements
 pub mod Scanning
 pub mod Putting
 pub mod Filling

@@ -14,6 +14,8 @@ use lib.ListN.{length, get_or, take, replicate}
 use lib.IntN.{ℤ}
 use lib.Dec.{eqb, ltb}
 use borrow.Author.Tests.{lt-ltb}
+use Rattle.std.proofs.Common.{Result, Ok, Err}
+use Rattle.refusals.specs.declared.Refused.{Refused}
 use Rattle.lists.proofs.InFront.{front_stands}
 use Rattle.hall.specs.Hall.{Rule, Hall}
 use Rattle.hall.specs.Ranges.{words}
@@ -27,8 +29,6 @@ use Rattle.typed.specs.declared.Mistake.TheVariants.{WrongByte, BadNumber, TooLo
 use Rattle.typed.proofs.Only.{mistake_of}
 use Rattle.dimacs.specs.declared.Flaw.{Flaw}
 use Rattle.dimacs.specs.declared.Flaw.TheVariants.{Text, Sheet, NoHeader, NotClosed, ExtraToken}
-use Rattle.dimacs.specs.declared.Filed.{Filed}
-use Rattle.dimacs.specs.declared.Filed.TheVariants.{Words, Refused}
 use Rattle.dimacs.specs.Stage.{inside}
 use Rattle.dimacs.specs.File.{flaw_numbers, Parsed, read_file}
 use Rattle.dimacs.specs.Standing.{lined, Standing, Accepted}
@@ -79,39 +79,39 @@ flaw_injective f g i j e = (
 )
 
 -- no refusal has the code 0
-code_some : (f : Flaw) (i w : ℕ) → flaw_numbers f i ≡ numbers_of (Words w) → ⊥
+code_some : (f : Flaw) (i w : ℕ) → flaw_numbers f i ≡ numbers_of (Ok w) → ⊥
 code_some f i w e = let z : get_or (flaw_numbers f i) 0 0 ≡ 0 = ap (λ (l : List ℕ). get_or l 0 0) e in omega (arith, (tells f i).large)
 
 -- the second number of an answer is the sheet's length
-words_of : {w v : ℕ} → numbers_of (Words w) ≡ numbers_of (Words v) → w ≡ v
+words_of : {w v : ℕ} → numbers_of (Ok w) ≡ numbers_of (Ok v) → w ≡ v
 words_of e = ap (λ (l : List ℕ). get_or l 1 0) e
 
-pub numbers_injective : (r s : Filed) → numbers_of r ≡ numbers_of s → r ≡ s
-numbers_injective (Words w) (Words v) e = ap Words (words_of e)
-numbers_injective (Words w) (Refused f i) e = absurd (code_some f i w (sym e))
-numbers_injective (Refused f i) (Words w) e = absurd (code_some f i w e)
-numbers_injective (Refused f i) (Refused g j) e = let x = flaw_injective f g i j e in rw (x.0, x.1)
+pub numbers_injective : (r s : Result ℕ (Refused Flaw)) → numbers_of r ≡ numbers_of s → r ≡ s
+numbers_injective (Ok w) (Ok v) e = ap Ok (words_of e)
+numbers_injective (Ok w) (Err e) q = absurd (code_some e.kind e.place w (sym q))
+numbers_injective (Err e) (Ok w) q = absurd (code_some e.kind e.place w q)
+numbers_injective (Err e) (Err d) q = let x = flaw_injective e.kind d.kind e.place d.place q in ap Err (rw (x.0, x.1))
 
-pub files_once : {text : List ℕ} {before : List ℤ} {r s : Filed} {a b : List ℤ} → Files text before r a → Files text before s b → (r ≡ s) × (a ≡ b)
+pub files_once : {text : List ℕ} {before : List ℤ} {r s : Result ℕ (Refused Flaw)} {a b : List ℤ} → Files text before r a → Files text before s b → (r ≡ s) × (a ≡ b)
 files_once {r = r} {s = s} x y = (numbers_injective r s (x.says ∙ sym y.says), x.room ∙ sym y.room)
 
 -- ── each answer exactly where it is justified ──
-module _ {text : List ℕ} {before : List ℤ} {r : Filed} {after : List ℤ} (x : Files text before r after) where
+module _ {text : List ℕ} {before : List ℤ} {r : Result ℕ (Refused Flaw)} {after : List ℤ} (x : Files text before r after) where
   is : r ≡ filed_of (read_file text (length before))
   is = numbers_injective r (filed_of (read_file text (length before))) x.says
 
-  pub refused_where : (f : Flaw) (i : ℕ) → (r ≡ Refused f i) ↔ Reason f i text (length before)
+  pub refused_where : (f : Flaw) (i : ℕ) → (r ≡ Err (record { kind = f; place = i })) ↔ Reason f i text (length before)
   refused_where f i = (
-    λ e. subst (λ (r : Filed). Justified text (length before) r after) e x.reason,
+    λ e. subst (λ (r : Result ℕ (Refused Flaw)). Justified text (length before) r after) e x.reason,
     λ y. is ∙ ap filed_of ((refused_exactly f i text (length before)).1 y),
   )
 
   -- with its hall, whose sheet then stands in front of the room: no other hall has these words
   pub accepted_where : (h : Hall)
-      → ((r ≡ Words (length (words h))) × (take (length (words h)) after ≡ words h)) ↔ Accepted text (length before) h
+      → ((r ≡ Ok (length (words h))) × (take (length (words h)) after ≡ words h)) ↔ Accepted text (length before) h
   accepted_where h = (
     λ e.
-        let s : SheetRead text (length before) (length (words h)) after = subst (λ (r : Filed). Justified text (length before) r after) e.0 x.reason in
+        let s : SheetRead text (length before) (length (words h)) after = subst (λ (r : Result ℕ (Refused Flaw)). Justified text (length before) r after) e.0 x.reason in
         let same : words h ≡ words s.hall = sym e.1 ∙ (s.sheet (length s.hall.costs) (omega arith)).sheet in
         subst (Accepted text (length before)) (sym (words_injective h s.hall same)) s.accepted,
     λ y.
@@ -129,7 +129,7 @@ pub record DecodesFor (text : List ℕ) (room w : ℕ) (after : List ℤ) : Type
   pub clauses : Standing (lined text) room (inside (length hall.costs) (length hall.rules) hall.rules []) (suc (length text)) []
   pub decodes : (plan : ℕ) → length hall.costs ≤ plan → decode plan (take w after) ≡ got hall w
 
-pub decodes_for : {text : List ℕ} {before : List ℤ} {w : ℕ} {after : List ℤ} → Files text before (Words w) after → DecodesFor text (length before) w after
+pub decodes_for : {text : List ℕ} {before : List ℤ} {w : ℕ} {after : List ℤ} → Files text before (Ok w) after → DecodesFor text (length before) w after
 decodes_for {text} {before} {w} {after} x =
     let s : SheetRead text (length before) w after = x.reason in
     let h = s.hall in

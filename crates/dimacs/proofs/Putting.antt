@@ -1,77 +1,42 @@
 -- What is put into the room: the counts, and the words of a clause that is open.
 --
--- In order: the counts put so far (`PutCounts`, `put_start`, `put_room`, `last_room`, `put_more`, `put_last`); the room with an open clause
+-- In order: the counts (`ones`, `counts_put`); the room with an open clause
 -- (`open_as`), when its width is written (`width_written`) and when an entry is (`entry_written`). Assumes nothing.
 use mathlib.Core.Path.{◌≡◌, refl, sym, ◌∙◌, ap}
 use mathlib.Core.List.{List, [], ◌∷◌, ◌++◌, append_assoc, append-nil}
-use Prim.Native.Nat.{ℕ, zero, suc, ◌+◌, ◌≤◌, ◌<◌}
+use Prim.Native.Nat.{ℕ, zero, suc, ◌+◌, ◌-◌, ◌≤◌, ◌<◌}
 use native.Mathlib.Omega.{arith}
-use lib.ListN.{length, get_or, drop, set, replicate, length-append, length-set}
+use lib.ListN.{length, get_or, drop, set, replicate, length-append}
 use lib.Seq.{drop-cons}
 use lib.IntN.{ℤ, pos}
+use borrow.Rule.Slice.PartMut.{put_mid}
 use Rattle.lists.specs.Lists.{in_front}
 use Rattle.lists.proofs.InFront.{front_adds, front_changes}
 use Rattle.hall.specs.Hall.{Entry, Rule}
 use Rattle.hall.specs.Ranges.{words_of, number_words, entry_words, rule_words}
 use Rattle.hall.proofs.Words.{words_append, words_one, entry_words_length}
 use Rattle.dimacs.specs.Stage.{inside, device_words, sheet_so_far}
-use Rattle.dimacs.specs.Steps.{CountsFit}
 use Rattle.dimacs.proofs.SoFar.{ones_long}
 
 -- ── the counts ──
-ones_more : (i : ℕ) → words_of number_words (replicate (suc i) 1) ≡ words_of number_words (replicate i 1) ++ (pos 1 ∷ [])
+ones : (n : ℕ) → words_of number_words (replicate n 1) ≡ replicate n (pos 1)
 unfolding words_of
-ones_more zero = refl
-ones_more (suc i) = ap (λ (l : List ℤ). pos 1 ∷ l) (ones_more i)
+ones zero = refl
+ones (suc n) = ap (λ (l : List ℤ). pos 1 ∷ l) (ones n)
 
--- the first i costs stand in front of the room, behind the place that is kept for the number of devices
-pub record PutCounts (before : List ℤ) (i : ℕ) (now : List ℤ) : Type 0 where
-  pub stands : now ≡ in_front (get_or before 0 (pos 0) ∷ words_of number_words (replicate i 1)) before
-  pub same : length now ≡ length before
-
--- a number is stored as what the machine reads back from its bits
-module _ {n m : ℕ} {before : List ℤ} (f : CountsFit n m before) where
-  pub put_start : PutCounts before 0 before
-  unfolding words_of
-  put_start = record { stands = drop-cons before 0 (pos 0) (omega (arith, f.fits)); same = refl }
-
-  module _ {i : ℕ} {now : List ℤ} (p : PutCounts before i now) where
-    front_long : length (get_or before 0 (pos 0) ∷ words_of number_words (replicate i 1)) ≡ i + 1
-    front_long = omega (arith, ones_long i)
-
-    pub put_room : i ≤ n → i + 1 < length now
-    put_room l = omega (arith, p.same, f.fits)
-
-    pub last_room : (y : ℤ) → n + 1 < length (set now 0 y)
-    last_room y = omega (arith, length-set now 0 y, p.same, f.fits)
-
-    pub put_more : i < n → {z : ℤ} → z ≡ pos 1 → PutCounts before (i + 1) (set now (i + 1) z)
-    put_more l {z} e =
-        let one : suc i ≡ i + 1 = omega arith in
-        let front = get_or before 0 (pos 0) ∷ words_of number_words (replicate i 1) in
-        record {
-          stands =
-              ap (set now (i + 1)) e
-              ∙ ap (λ (room : List ℤ). set room (i + 1) (pos 1)) p.stands
-              ∙ ap (λ (k : ℕ). set (in_front front before) k (pos 1)) (sym front_long)
-              ∙ front_adds front before (pos 1) (pos 0) (omega (arith, front_long, f.fits))
-              ∙ ap (λ (l : List ℤ). in_front (get_or before 0 (pos 0) ∷ l) before)
-              (sym (ones_more i) ∙ ap (λ (k : ℕ). words_of number_words (replicate k 1)) one);
-          same = length-set now (i + 1) z ∙ p.same;
-        }
-
-    pub put_last : n ≤ i → i ≤ n → {y z : ℤ} → y ≡ pos n → z ≡ pos m → set (set now 0 y) (n + 1) z ≡ in_front (sheet_so_far (inside n m [] [])) before
-    unfolding sheet_so_far words_of
-    put_last l k {y} {z} e q =
-        let same : i ≡ n = omega arith in
-        let long : length (device_words n) ≡ n + 1 = omega (arith, ones_long n) in
-        ap (set (set now 0 y) (n + 1)) q
-        ∙ ap (λ (y : ℤ). set (set now 0 y) (n + 1) (pos m)) e
-        ∙ ap (λ (room : List ℤ). set (set room 0 (pos n)) (n + 1) (pos m))
-        (p.stands ∙ ap (λ (k : ℕ). in_front (get_or before 0 (pos 0) ∷ words_of number_words (replicate k 1)) before) same)
-        ∙ ap (λ (room : List ℤ). set room (n + 1) (pos m)) (front_changes [] (get_or before 0 (pos 0)) (pos n) (words_of number_words (replicate n 1)) before)
-        ∙ ap (λ (k : ℕ). set (in_front (device_words n) before) k (pos m)) (sym long)
-        ∙ front_adds (device_words n) before (pos m) (pos 0) (omega (arith, long, f.fits))
+-- the costs are put as the machine reads them back
+pub counts_put : (n m : ℕ) (room : List ℤ) → n + 2 ≤ length room → {costs : List ℤ} → costs ≡ replicate n (pos 1)
+    → set (put_mid 1 (n + 1 - 1) (set room 0 (pos n)) costs) (n + 1) (pos m) ≡ in_front (sheet_so_far (inside n m [] [])) room
+unfolding sheet_so_far words_of
+counts_put n m [] l e = absurd (omega arith)
+counts_put n m (x ∷ room) l {costs} e =
+    let long : length (device_words n) ≡ n + 1 = omega (arith, ones_long n) in
+    let less : n + 1 - 1 ≡ n = omega arith in
+    let same : length (words_of number_words (replicate n 1)) ≡ n = ones_long n in
+    ap (λ (l : List ℤ). set (pos n ∷ (l ++ drop (n + 1 - 1) room)) (n + 1) (pos m)) (e ∙ sym (ones n))
+    ∙ ap (λ (k : ℕ). set (pos n ∷ (words_of number_words (replicate n 1) ++ drop k room)) (n + 1) (pos m)) (less ∙ sym same)
+    ∙ ap (λ (k : ℕ). set (in_front (device_words n) (x ∷ room)) k (pos m)) (sym long)
+    ∙ front_adds (device_words n) (x ∷ room) (pos m) (pos 0) (omega (arith, long))
 
 -- ── a clause that is open ──
 one_more_lem : (entries : Rule) (e : Entry) → words_of entry_words entries ++ entry_words e ≡ words_of entry_words (entries ++ (e ∷ []))

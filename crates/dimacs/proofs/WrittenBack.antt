@@ -12,6 +12,8 @@ use native.Mathlib.Omega.{arith}
 use lib.ListN.{length, replicate, length-append}
 use lib.IntN.{ℤ, pos}
 use lib.Dec.{eqb}
+use Rattle.std.proofs.Common.{Result, Ok}
+use Rattle.refusals.specs.declared.Refused.{Refused}
 use Rattle.lists.specs.Lists.{Each, in_front}
 use Rattle.lists.specs.Bytes.{bytes}
 use Rattle.hall.specs.Hall.{at1, at0, device, Rule, Hall}
@@ -26,8 +28,7 @@ use Rattle.dimacs.specs.Standing.{lined, Lead, clause_numbers, numbers_to, Accep
 use Rattle.dimacs.specs.Standing as standing
 use Rattle.dimacs.specs.Contract.{filed_of, numbers_of, room_after, Files}
 use Rattle.dimacs.specs.Written.{written_each, comment_line, header_line, clause_line, written_file}
-use Rattle.dimacs.specs.declared.Filed.{Filed}
-use Rattle.dimacs.specs.declared.Filed.TheVariants.{Words}
+use Rattle.dimacs.specs.declared.Flaw.{Flaw}
 use Rattle.dimacs.proofs.SoFar.{sheet_words}
 use Rattle.dimacs.proofs.Verdicts.{verdict_only}
 use Rattle.dimacs.proofs.Only.{numbers_injective}
@@ -166,12 +167,12 @@ written_reads comments h room lines ranges one short fits few =
     verdict_only (written_file comments h) room (file h) (written_accepted comments h room lines ranges one short fits few)
 
 -- so `read` answers the sheet's length and puts the sheet at the front of the room
-pub written_back : (comments : List (List ℕ)) (h : Hall) (before : List ℤ) {r : Filed} {after : List ℤ}
+pub written_back : (comments : List (List ℕ)) (h : Hall) (before : List ℤ) {r : Result ℕ (Refused Flaw)} {after : List ℤ}
     → Each (Each (λ b. eqb b 10 ≡ false)) comments → HallInRange h
     → h.costs ≡ replicate (length h.costs) 1
     → length (written_file comments h) ≤ 60000 → length (words h) ≤ length before → length (words h) ≤ 16384
-    → Files (written_file comments h) before r after → (r ≡ Words (length (words h))) × (after ≡ in_front (words h) before)
+    → Files (written_file comments h) before r after → (r ≡ Ok (length (words h))) × (after ≡ in_front (words h) before)
 written_back comments h before {r} lines ranges one short fits few x =
     let e = written_reads comments h (length before) lines ranges one short fits few in
     let told = x.says ∙ ap (λ (y : Parsed). numbers_of (filed_of y)) e in
-    (numbers_injective r (Words (length (words h))) told, x.room ∙ ap (λ (y : Parsed). room_after y before) e)
+    (numbers_injective r (Ok (length (words h))) told, x.room ∙ ap (λ (y : Parsed). room_after y before) e)

@@ -6,9 +6,10 @@ ghost use Rattle.dimacs.specs.File.{limit_of, read_numbers};
 ghost use Rattle.dimacs.specs.Contract.{room_after};
 ghost use Rattle.dimacs.specs.Steps.{named_of, Small, judged_of, ScanFits, Scans, FillFits};
 
-use crate::{Filed, Flaw};
-use refusals::{Refusal, Split};
-use typed::{Mistake, Next};
+use crate::number::next_number;
+use crate::{Declared, Flaw};
+use refusals::{Refusal, Refused, Split};
+use typed::Mistake;
 
 // A number of a clause: the 0 at its end, an entry of one of the devices, or neither.
 #[derive(Clone, Copy)]
@@ -18,132 +19,111 @@ enum Named {
     Outside,
 }
 
-// What a number does: it closes its clause, it enters it, or it is refused.
+// What a number that is not refused does: it closes its clause, or enters it.
 #[derive(Clone, Copy)]
 enum Judged {
     Closes,
     Enters,
-    Bad(Flaw),
+}
+
+// How far the clauses are read: so many are closed, the sheet up to them has so many words, and the open one has so many entries.
+#[derive(Clone, Copy)]
+struct Progress {
+    closed: usize,
+    head: usize,
+    width: usize,
 }
 
 // A number as an entry of one of n devices.
 fn named_by(z: i32, n: u32) -> Named
     ensures { result ≡ named_of n z }
 {
-    match refusals::split_sign(z) {
-        Split::Up(v) => {
-            if v == 0 {
-                return Named::Zero;
-            }
-            if v <= n {
-                Named::Device
-            } else {
-                Named::Outside
-            }
-        }
-        Split::Down(k) => { if k < n { Named::Device } else { Named::Outside } }
+    match Split::from(z) {
+        Split::Up(0) => Named::Zero,
+        Split::Up(v) if v <= n => Named::Device,
+        Split::Down(k) if k < n => Named::Device,
+        _ => Named::Outside,
     }
 }
 
-// A number, where so many clauses are closed, of so many words with the counts, and the next has so many entries.
-fn judge(z: i32, n: u32, m: u32, limit: usize, closed: usize, width: usize, head: usize) -> Judged
-    requires { Small closed width head }
-    ensures { result ≡ judged_of n m limit closed width head z }
-{
-    if m as usize <= closed {
-        return Judged::Bad(Flaw::ExtraToken);
-    }
-    match named_by(z, n) {
-        Named::Zero => {
-            if limit < head + width + 1 {
-                return Judged::Bad(Flaw::Text(Mistake::NoRoom));
-            }
-            Judged::Closes
+impl Progress {
+    // What the next number does, or why it is refused.
+    fn judge(self, z: i32, declared: Declared, limit: usize) -> Result<Judged, Flaw>
+        requires { Small self.closed self.width self.head }
+        ensures { result ≡ judged_of declared.variables declared.clauses limit self.closed self.width self.head z }
+    {
+        if declared.clauses as usize <= self.closed {
+            return Err(Flaw::ExtraToken);
         }
-        Named::Outside => Judged::Bad(Flaw::Sheet(Refusal::BadEntry)),
-        Named::Device => {
-            if 32 <= width {
-                return Judged::Bad(Flaw::Sheet(Refusal::BadWidth(closed + 1)));
-            }
-            if limit < head + width + 2 {
-                return Judged::Bad(Flaw::Text(Mistake::NoRoom));
-            }
-            Judged::Enters
+        match named_by(z, declared.variables) {
+            Named::Zero if limit < self.head + self.width + 1 => Err(Mistake::NoRoom.into()),
+            Named::Zero => Ok(Judged::Closes),
+            Named::Outside => Err(Refusal::BadEntry.into()),
+            Named::Device if 32 <= self.width => Err(Refusal::BadWidth(self.closed + 1).into()),
+            Named::Device if limit < self.head + self.width + 2 => Err(Mistake::NoRoom.into()),
+            Named::Device => Ok(Judged::Enters),
         }
     }
 }
 
-// The first pass, behind the counts: it writes nothing.
-pub(crate) fn scan(text: &[u8], from: usize, n: u32, m: u32, limit: usize) -> Filed
-    requires { ScanFits n m limit }
-    ensures { Scans text.now from n m limit result }
+// The first pass, behind the counts: it writes nothing. The length of the sheet is returned.
+pub(crate) fn scan(text: &[u8], declared: Declared, limit: usize) -> Result<usize, Refused<Flaw>>
+    requires { ScanFits declared.variables limit }
+    ensures { Scans text.now declared.end declared.variables declared.clauses limit result }
 {
-    let mut at = from;
-    let mut closed: usize = 0;
-    let mut width: usize = 0;
-    let mut head = n as usize + 2;
-    loop {
-        match typed::next_word(text, at) {
-            Next::End => {
-                if closed < m as usize {
-                    return Filed::Refused(Flaw::NotClosed, text.len());
-                }
-                return Filed::Words(head);
+    let mut at = declared.end;
+    let mut so_far = Progress {
+        closed: 0,
+        head: declared.variables as usize + 2,
+        width: 0,
+    };
+    while let Some(found) = next_number(text, at)? {
+        let judged = so_far
+            .judge(found.word, declared, limit)
+            .map_err(|kind| Refused {
+                kind,
+                place: found.start,
+            })?;
+        match judged {
+            Judged::Closes => {
+                so_far.closed += 1;
+                so_far.head += so_far.width + 1;
+                so_far.width = 0;
             }
-            Next::Bad(mistake, place) => {
-                return Filed::Refused(Flaw::Text(mistake), place);
-            }
-            Next::Found(z, start, end) => match judge(z, n, m, limit, closed, width, head) {
-                Judged::Bad(flaw) => {
-                    return Filed::Refused(flaw, start);
-                }
-                Judged::Closes => {
-                    closed += 1;
-                    head = head + width + 1;
-                    width = 0;
-                    at = end;
-                }
-                Judged::Enters => {
-                    width += 1;
-                    at = end;
-                }
-            },
+            Judged::Enters => so_far.width += 1,
         }
+        at = found.end;
     }
+    if so_far.closed < declared.clauses as usize {
+        return Err(Refused {
+            kind: Flaw::NotClosed,
+            place: text.len(),
+        });
+    }
+    Ok(so_far.head)
 }
 
 // The second pass, over clauses in which the first found no flaw. A rule's width is written when its clause is closed.
-pub(crate) fn fill(text: &[u8], from: usize, n: u32, m: u32, room: &mut [i32])
-    requires { FillFits text.now from n m room.old }
-    ensures { room.new ≡ room_after (read_numbers (limit_of (length room.old)) (length text.now) (inside n m [] []) (tokens_at text.now from)) room.old }
+pub(crate) fn fill(text: &[u8], declared: Declared, room: &mut [i32])
+    requires { FillFits text.now declared.end declared.variables declared.clauses room.old }
+    ensures { room.new ≡ room_after (read_numbers (limit_of (length room.old)) (length text.now) (inside declared.variables declared.clauses [] []) (tokens_at text.now declared.end)) room.old }
 {
-    let mut at = from;
+    let mut at = declared.end;
+    let mut head = declared.variables as usize + 2;
     let mut width: usize = 0;
-    let mut head = n as usize + 2;
-    loop {
-        match typed::next_word(text, at) {
-            Next::End => {
-                return;
+    while let Some(found) = typed::next_word(text, at).unwrap() {
+        match named_by(found.word, declared.variables) {
+            Named::Zero => {
+                room[head] = width as i32;
+                head += width + 1;
+                width = 0;
             }
-            Next::Bad(_, _) => {
-                return;
+            Named::Device => {
+                room[head + width + 1] = found.word;
+                width += 1;
             }
-            Next::Found(z, _, end) => match named_by(z, n) {
-                Named::Outside => {
-                    return;
-                }
-                Named::Zero => {
-                    room[head] = width as i32;
-                    head = head + width + 1;
-                    width = 0;
-                    at = end;
-                }
-                Named::Device => {
-                    room[head + width + 1] = z;
-                    width += 1;
-                    at = end;
-                }
-            },
+            Named::Outside => unreachable!(),
         }
+        at = found.end;
     }
 }

@@ -1,3 +1,2 @@
--- The laws behind the proofs, in the order of the argument.
-pub mod Told
+-- What the contracts give.
 pub mod Only

@@ -10,21 +10,17 @@ ghost use Rattle.lists.specs.Lists.{in_front};
 ghost use Rattle.exported.specs.Exported.{edition_of, Searches, ReadsFile, WritesText, ListsPlans};
 ghost use Rattle.reply.specs.Contract.{Replies, RepliesFile};
 
-use dimacs::Filed;
 use search::Answer;
 use tied::Tied;
-use wcnf::{Edition, Written};
+use wcnf::Edition;
 
-// The numbers of an answer go to the front of the array; what lies behind them stays.
+// The numbers of an answer go to the front of the array; what lies behind them stays. `refusals` has such a function for the few numbers of
+// a refusal: one for both would be public and would have to require that they fit.
 fn tell(told: &[u64], numbers: &mut [u64])
     requires { length told.now ≤ length numbers.old }
     ensures { numbers.new ≡ in_front told.now numbers.old }
 {
-    let mut i: usize = 0;
-    while i < told.len() {
-        numbers[i] = told[i];
-        i += 1;
-    }
+    numbers[..told.len()].copy_from_slice(told);
 }
 
 // 01, "The answer sheet of the search", with 02, requests 1 and 3: the least plan of a sheet, under a budget of trial plans; its marks
@@ -39,20 +35,13 @@ pub extern "C" fn leastplan_search(
     ensures { Searches words.now budget room.old numbers.old room.new numbers.new }
 {
     match search::least_plan(words, budget, room) {
-        Answer::Least(cost, held, opened) => {
-            let told = [0, cost, held as u64, opened as u64];
-            tell(&told, numbers);
+        Ok(Answer::Least { cost, held, opened }) => {
+            tell(&[0, cost, u64::from(held), u64::from(opened)], numbers);
         }
-        Answer::None(opened) => {
-            let told = [1, opened as u64];
-            tell(&told, numbers);
-        }
-        Answer::Spent(opened) => {
-            let told = [2, opened as u64];
-            tell(&told, numbers);
-        }
-        Answer::Refused(kind, place) => {
-            refusals::numbers_of(kind, place, numbers);
+        Ok(Answer::None(opened)) => tell(&[1, u64::from(opened)], numbers),
+        Ok(Answer::Spent(opened)) => tell(&[2, u64::from(opened)], numbers),
+        Err(refused) => {
+            refused.tell(numbers);
         }
     }
 }
@@ -71,12 +60,9 @@ pub extern "C" fn leastplan_cnf_read(text: &[u8], room: &mut [i32], numbers: &mu
     ensures { ReadsFile text.now room.old numbers.old room.new numbers.new }
 {
     match dimacs::read(text, room) {
-        Filed::Words(w) => {
-            let told = [0, w as u64];
-            tell(&told, numbers);
-        }
-        Filed::Refused(flaw, place) => {
-            dimacs::numbers_of(flaw, place, numbers);
+        Ok(count) => tell(&[0, count as u64], numbers),
+        Err(flaw) => {
+            flaw.tell(numbers);
         }
     }
 }
@@ -89,7 +75,7 @@ pub extern "C" fn leastplan_cnf_answer(text: &[u8], out: &mut [u8; 1024]) -> usi
     reply::answer_file(text, out)
 }
 
-// Which edition a number asks for.
+// Which edition a number asks for. No `From`: the numbers are the C interface's, and the type is `wcnf`'s.
 fn edition_of(number: u32) -> Edition
     ensures { result ≡ edition_of number }
 {
@@ -112,12 +98,9 @@ pub extern "C" fn leastplan_wcnf_write(
     ensures { WritesText words.now edition text.old numbers.old text.new numbers.new }
 {
     match wcnf::write(words, edition_of(edition), text) {
-        Written::Text(size) => {
-            let told = [0, size as u64];
-            tell(&told, numbers);
-        }
-        Written::Refused(obstacle, place) => {
-            wcnf::numbers_of(obstacle, place, numbers);
+        Ok(size) => tell(&[0, size as u64], numbers),
+        Err(obstacle) => {
+            obstacle.tell(numbers);
         }
     }
 }
@@ -134,22 +117,31 @@ pub extern "C" fn leastplan_ties(
     ensures { ListsPlans words.now budget room.old numbers.old room.new numbers.new }
 {
     match tied::least_plans(words, budget, room) {
-        Tied::Plans(cost, held, number, opened) => {
-            let told = [0, cost, held as u64, number as u64, opened as u64];
-            tell(&told, numbers);
+        Ok(
+            Tied::Plans {
+                cost,
+                held,
+                number,
+                opened,
+            },
+        ) => {
+            tell(
+                &[
+                    0,
+                    cost,
+                    u64::from(held),
+                    u64::from(number),
+                    u64::from(opened),
+                ],
+                numbers,
+            );
         }
-        Tied::None(opened) => {
-            let told = [1, opened as u64];
-            tell(&told, numbers);
-        }
-        Tied::Spent(opened) => {
-            let told = [2, opened as u64];
-            tell(&told, numbers);
-        }
-        Tied::Refused(hindrance, place) => {
-            let mut told = [0u64; 4];
-            let count = tied::numbers_of(hindrance, place, &mut told);
-            tell(&told[0..count], numbers);
+        Ok(Tied::None(opened)) => tell(&[1, u64::from(opened)], numbers),
+        Ok(Tied::Spent(opened)) => tell(&[2, u64::from(opened)], numbers),
+        Err(hindrance) => {
+            let mut told = [0; 4];
+            let count = hindrance.tell(&mut told);
+            tell(&told[..count], numbers);
         }
     }
 }

@@ -1,12 +1,12 @@
 -- The lines of plans that lie in a run.
 --
--- In order: from a place of the run on, where plans are left (`lines_more`) and where none is (`lines_end`); the next plan lies within
--- the run (`next_within`), and so do those behind it (`rest_within`); how long the lines are at most (`lines_short`); so many plans of a
--- run are so many (`plans_number`). Assumes nothing.
-use mathlib.Core.Path.{◌≡◌, refl, ap}
-use mathlib.Core.List.{List, [], ◌∷◌, ◌++◌}
-use Prim.Native.Nat.{ℕ, zero, suc, ◌+◌, ◌-◌, ◌*◌, ◌≤◌, ◌<◌}
-use native.Mathlib.Nat.{suc-mul}
+-- In order: no line (`lines_none`), and one more (`lines_more`); how long the lines are at most (`lines_short`); so many plans of a run
+-- are so many (`plans_number`). Assumes nothing.
+use mathlib.Core.Path.{◌≡◌, refl, sym, ◌∙◌, ap}
+use mathlib.Core.List.{List, [], ◌∷◌, ◌++◌, append_assoc, append-nil}
+use Prim.Native.Nat.{ℕ, zero, suc, ◌+◌, ◌-◌, ◌*◌, ◌≤◌}
+use native.Mathlib.Numerals.{add-one}
+use native.Mathlib.Nat.{zero-mul, suc-mul}
 use native.Mathlib.Omega.{arith}
 use lib.ListN.{length, take, drop, length-append}
 use lib.Seq.{drop-drop}
@@ -17,31 +17,29 @@ use Rattle.printing.specs.Lines.{hold_line}
 use Rattle.printing.proofs.Lengths.{hold_short}
 use Rattle.foreman.specs.Printed.{hold_lines}
 
--- ── from a place on ──
-module _ (n : ℕ) (run : List ℕ) (from : ℕ) where
-  pub lines_more : (left : ℕ) → 0 < left
-      → hold_lines (plans_from left n (drop from run)) ≡ hold_line (take (from + n - from) (drop from run)) ++ hold_lines (plans_from (left - 1) n (drop (from + n) run))
-  unfolding hold_lines plans_from
-  lines_more zero l = absurd (omega arith)
-  lines_more (suc left) l =
-      let size : from + n - from ≡ n = omega arith in
-      let one : suc left - 1 ≡ left = omega arith in
-      rw (size, one, ← drop-drop n from run) refl
+-- ── one plan behind the others ──
+module _ (n : ℕ) where
+  plans_behind : (many : ℕ) (run : List ℕ) → plans_from (suc many) n run ≡ plans_from many n run ++ (take n (drop (many * n) run) ∷ [])
+  unfolding plans_from
+  plans_behind zero run = rw zero-mul refl
+  plans_behind (suc many) run =
+      let place : suc many * n ≡ n + many * n = omega (arith, suc-mul many n) in
+      rw (place, ← drop-drop (many * n) n run) (ap (λ (ps : List Plan). take n run ∷ ps) (plans_behind many (drop n run)))
 
-  pub lines_end : (left : ℕ) → left ≤ 0 → hold_lines (plans_from left n (drop from run)) ≡ []
-  unfolding hold_lines plans_from
-  lines_end zero l = refl
-  lines_end (suc left) l = absurd (omega arith)
+hold_behind : (ps : List Plan) (p : Plan) → hold_lines (ps ++ (p ∷ [])) ≡ hold_lines ps ++ hold_line p
+unfolding hold_lines
+hold_behind [] p = append-nil (hold_line p)
+hold_behind (q ∷ ps) p = ap (λ (l : List ℕ). hold_line q ++ l) (hold_behind ps p) ∙ sym (append_assoc (hold_line q) (hold_lines ps) (hold_line p))
 
-  pub next_within : (left : ℕ) → 0 < left → from + left * n ≤ length run → from + n ≤ length run
-  next_within zero l h = absurd (omega arith)
-  next_within (suc left) l h = omega (arith, suc-mul left n)
+pub lines_none : (n : ℕ) (run : List ℕ) → hold_lines (plans_from 0 n run) ≡ []
+unfolding hold_lines plans_from
+lines_none n run = refl
 
-  pub rest_within : (left : ℕ) → 0 < left → from + left * n ≤ length run → from + n + (left - 1) * n ≤ length run
-  rest_within zero l h = absurd (omega arith)
-  rest_within (suc left) l h =
-      let one : suc left - 1 ≡ left = omega arith in
-      rw one (omega (arith, suc-mul left n))
+pub lines_more : (i n : ℕ) (run : List ℕ)
+    → hold_lines (plans_from (i + 1) n run) ≡ hold_lines (plans_from i n run) ++ hold_line (take (i * n + n - i * n) (drop (i * n) run))
+lines_more i n run =
+    let size : i * n + n - i * n ≡ n = omega arith in
+    rw (size, add-one) (ap hold_lines (plans_behind n i run) ∙ hold_behind (plans_from i n run) (take n (drop (i * n) run)))
 
 -- ── how long they are ──
 pub lines_short : (n : ℕ) (ps : List Plan) → n ≤ 200 → Sized n ps → length (hold_lines ps) ≤ length ps * 897

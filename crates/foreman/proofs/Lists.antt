@@ -19,45 +19,46 @@ use Rattle.hall.proofs.Sheets.{devices_on_lem}
 use Rattle.hall.proofs.Listed.{lists_only}
 use Rattle.plans.specs.Runs.{plans_from}
 use Rattle.plans.proofs.Runs.{Sized, joined_length}
-use Rattle.refusals.specs.Contract.{Tells}
-use Rattle.refusals.proofs.ToldNumbers.{told_front, told_short}
+use Rattle.std.specs.Prelude.{Result, Ok, Err}
+use Rattle.refusals.specs.declared.Refused.{Refused}
+use Rattle.refusals.specs.declared.RoomRefusal.{RoomRefusal}
+use Rattle.refusals.specs.declared.RoomRefusal.TheVariants.{BadSheet, ShortRoom}
 use Rattle.typed.specs.Printing.{digits_of}
+use Rattle.printing.specs.declared.Page.{Page}
 use Rattle.printing.specs.Lines.{line, refused_line}
 use Rattle.printing.specs.Contract.{Puts, PutsLine}
 use Rattle.printing.proofs.Putting.{puts_then}
-use Rattle.printing.proofs.InRoom.{put_in_room, in_room_as, line_in_room}
+use Rattle.printing.proofs.InRoom.{Filled, put_in_room}
 use Rattle.tied.specs.Contract.{hindrance_numbers, listing_of, plans_of, ListsTies}
-use Rattle.tied.specs.declared.Hindrance.{Hindrance}
-use Rattle.tied.specs.declared.Hindrance.TheVariants.{BadSheet, ShortRoom}
 use Rattle.tied.specs.declared.Tied.{Tied}
-use Rattle.tied.specs.declared.Tied.TheVariants.{Plans, None, Spent, Refused}
+use Rattle.tied.specs.declared.Tied.TheVariants.{Plans, None, Spent}
 use Rattle.foreman.specs.Printed.{hold_lines, printed_listing, printed_sheet}
 use Rattle.foreman.specs.Contract.{ListsSheet}
 use Rattle.foreman.proofs.Lines.{lines_short, plans_number}
 
 -- the line of a refusal
-refused_line_lem : (hindrance : Hindrance) (place : ℕ) (ps : List Plan) → refused_line (hindrance_numbers hindrance place) ≡ printed_listing (listing_of (Refused hindrance place) ps)
+refused_line_lem : (kind : RoomRefusal 51) (place : ℕ) (ps : List Plan) → refused_line (hindrance_numbers kind place) ≡ printed_listing (listing_of (Err (record { kind = kind; place = place })) ps)
 refused_line_lem (BadSheet kind) place ps = refl
 refused_line_lem ShortRoom place ps = refl
 
 -- ── the plans in a room ──
 -- the list that an answer is, with the plans that stand in the room
-abbrev list_of : List ℤ → Tied → (room : List ℕ) → Listing
+abbrev list_of : List ℤ → Result Tied (Refused (RoomRefusal 51)) → (room : List ℕ) → Listing
 list_of ws answer room = listing_of answer (plans_of ws answer room)
 
-module _ (ws : List ℤ) (budget : ℕ) (marks : List ℕ) (found : Tied) (room : List ℕ) (x : ListsTies ws budget marks found room) where
-  claim : (answer : Tied) → found ≡ answer → Lists ws budget (length marks) (list_of ws answer room)
-  claim answer e = subst (λ (a : Tied). Lists ws budget (length marks) (list_of ws a room)) e x.claim
+module _ (ws : List ℤ) (budget : ℕ) (marks : List ℕ) (found : Result Tied (Refused (RoomRefusal 51))) (room : List ℕ) (x : ListsTies ws budget marks found room) where
+  claim : (answer : Result Tied (Refused (RoomRefusal 51))) → found ≡ answer → Lists ws budget (length marks) (list_of ws answer room)
+  claim answer e = subst (λ (a : Result Tied (Refused (RoomRefusal 51))). Lists ws budget (length marks) (list_of ws a room)) e x.claim
 
-  module _ (cost held number opened : ℕ) (e : found ≡ Plans cost held number opened) (n : ℕ) (devices : n ≡ devices_on ws) where
+  module _ (cost held number opened : ℕ) (e : found ≡ Ok (Plans cost held number opened)) (n : ℕ) (devices : n ≡ devices_on ws) where
     says : SaysListed ws budget (length marks) cost held opened (plans_from number n room)
-    says = subst (λ (k : ℕ). SaysListed ws budget (length marks) cost held opened (plans_from number k room)) (sym devices) (claim (Plans cost held number opened) e)
+    says = subst (λ (k : ℕ). SaysListed ws budget (length marks) cost held opened (plans_from number k room)) (sym devices) (claim (Ok (Plans cost held number opened)) e)
 
     sized : Sized n (plans_from number n room)
     sized = each_of (λ (q : Plan). length q ≡ n) (plans_from number n room) (λ q i. (says.list.only q i).0.plan.size ∙ sym (devices_on_lem says.least.sheet) ∙ sym devices)
 
-    pub plans_within : length room ≡ length marks → number * n ≤ length room
-    plans_within kept =
+    plans_fit : length room ≡ length marks → number * n ≤ length room
+    plans_fit kept =
         let many = plans_number number n room in
         let long : length (joined (plans_from number n room)) ≡ number * n = joined_length n (plans_from number n room) sized ∙ ap (λ (k : ℕ). k * n) many in
         omega (arith, says.fit)
@@ -68,53 +69,48 @@ module _ (ws : List ℤ) (budget : ℕ) (marks : List ℕ) (found : Tied) (room 
         let few = says.least.sheet.ranges.devices in
         omega (arith, lines_short n (plans_from number n room) (omega (arith, devices_on_lem says.least.sheet)) sized, says.few)
 
+  pub plans_within : (a : Tied) → found ≡ Ok a → (cost held number opened : ℕ) → a ≡ Plans cost held number opened → (n : ℕ) → n ≡ devices_on ws
+      → length room ≡ length marks → number * n ≤ length room
+  plans_within a f cost held number opened e n devices kept = plans_fit cost held number opened (f ∙ ap Ok e) n devices kept
+
 -- ── what is printed ──
-module _ (ws : List ℤ) (marks : List ℕ) (blank : marks ≡ replicate 51200 0) (found : Tied) (room : List ℕ) (x : ListsTies ws 1000000 marks found room) where
-  listing_is : (answer : Tied) → found ≡ answer → printed_listing (list_of ws answer room) ≡ printed_sheet ws
+module _ (ws : List ℤ) (marks : List ℕ) (blank : marks ≡ replicate 51200 0) (found : Result Tied (Refused (RoomRefusal 51))) (room : List ℕ) (x : ListsTies ws 1000000 marks found room) where
+  listing_is : (answer : Result Tied (Refused (RoomRefusal 51))) → found ≡ answer → printed_listing (list_of ws answer room) ≡ printed_sheet ws
   unfolding printed_sheet
   listing_is answer e =
       let size : length marks ≡ 51200 = ap length blank ∙ length-replicate {A = ℕ} 51200 0 in
       let only = lists_only ws 1000000 (length marks) (list_of ws answer room) (claim ws 1000000 marks found room x answer e) in
       ap printed_listing (sym only ∙ ap (listing ws 1000000) size)
 
-  module _ (before : List ℕ) (large : length before ≡ 230000) (r : ℕ) (after : List ℕ) where
-    pub lists_none : (opened : ℕ) → found ≡ None opened → PutsLine (bytes "none") (opened ∷ []) 0 before r after → ListsSheet ws before r after
-    lists_none opened e p =
-        let h = line_in_room 230000 (bytes "none") (opened ∷ []) before r after large (omega arith) p in
-        in_room_as 230000 (line (bytes "none") digits_of (opened ∷ [])) before r after (printed_sheet ws) (listing_is (None opened) e) h
-
-    pub lists_spent : (opened : ℕ) → found ≡ Spent opened → PutsLine (bytes "spent") (opened ∷ []) 0 before r after → ListsSheet ws before r after
-    lists_spent opened e p =
-        let h = line_in_room 230000 (bytes "spent") (opened ∷ []) before r after large (omega arith) p in
-        in_room_as 230000 (line (bytes "spent") digits_of (opened ∷ [])) before r after (printed_sheet ws) (listing_is (Spent opened) e) h
-
-    -- the numbers of a refusal are those that stand in front of the array, as many as was told
-    pub lists_refused : (hindrance : Hindrance) (place : ℕ) → found ≡ Refused hindrance place → (numbers numbers' : List ℕ) (told : ℕ)
-        → Tells (hindrance_numbers hindrance place) numbers told numbers' → PutsLine (bytes "refused") (take (told - 0) numbers') 0 before r after
+  module _ (before : List ℕ) (large : length before ≡ 230000) (r : ℕ) (after : List ℕ) (start end : Page) (filled : Filled before start end r after) where
+    lists : (answer : Result Tied (Refused (RoomRefusal 51))) → found ≡ answer → (lines : List ℕ) → lines ≡ printed_listing (list_of ws answer room) → length lines ≤ 230000 → Puts lines start end
         → ListsSheet ws before r after
-    lists_refused hindrance place e numbers numbers' told t p =
-        let short = told_short (hindrance_numbers hindrance place) numbers told numbers' t in
-        let h = line_in_room 230000 (bytes "refused") (take (told - 0) numbers') before r after large (omega arith) p in
-        in_room_as 230000 (refused_line (take (told - 0) numbers')) before r after (printed_sheet ws)
-        (ap refused_line (told_front (hindrance_numbers hindrance place) numbers told numbers' t)
-        ∙ refused_line_lem hindrance place (plans_of ws (Refused hindrance place) room)
-        ∙ listing_is (Refused hindrance place) e)
-        h
+    lists answer e lines is fits p = rw (← listing_is answer e, ← is) (put_in_room 230000 lines before r after start end filled large fits p)
+
+    -- here and below `o`, `h` and `k` are numbers as they are printed, which are wider
+    pub lists_none : (a : Tied) → found ≡ Ok a → (opened o : ℕ) → a ≡ None opened → o ≡ opened → PutsLine (bytes "none") (o ∷ []) start end → ListsSheet ws before r after
+    lists_none a f opened o e number p = lists (Ok (None opened)) (f ∙ ap Ok e) _ (rw number refl) (omega (arith, p.short)) p.puts
+
+    pub lists_spent : (a : Tied) → found ≡ Ok a → (opened o : ℕ) → a ≡ Spent opened → o ≡ opened → PutsLine (bytes "spent") (o ∷ []) start end → ListsSheet ws before r after
+    lists_spent a f opened o e number p = lists (Ok (Spent opened)) (f ∙ ap Ok e) _ (rw number refl) (omega (arith, p.short)) p.puts
+
+    pub lists_refused : (f : Refused (RoomRefusal 51)) → found ≡ Err f → PutsLine (bytes "refused") (hindrance_numbers f.kind f.place) start end
+        → length (hindrance_numbers f.kind f.place) ≤ 3 → ListsSheet ws before r after
+    lists_refused f e p few = lists (Err f) e _ (refused_line_lem f.kind f.place (plans_of ws (Err f) room)) (omega (arith, p.short)) p.puts
 
     -- the first line has at most 69 bytes, the second 27
-    pub lists_plans : (cost held number opened : ℕ) → found ≡ Plans cost held number opened → (n : ℕ) → n ≡ devices_on ws
-        → (begins : ℕ) (begun : List ℕ) → PutsLine (bytes "least") (cost ∷ held ∷ opened ∷ []) 0 before begins begun
-        → (next : ℕ) (out : List ℕ) → PutsLine (bytes "plans") (number ∷ []) begins begun next out → Puts (hold_lines (plans_from number n room)) next out r after
-        → ListsSheet ws before r after
-    lists_plans cost held number opened e n devices begins begun p next out q s =
-        let least = line (bytes "least") digits_of (cost ∷ held ∷ opened ∷ []) in
-        let plans = line (bytes "plans") digits_of (number ∷ []) in
+    pub lists_plans : (a : Tied) → found ≡ Ok a → (cost held number opened h k o : ℕ) → a ≡ Plans cost held number opened → h ≡ held → k ≡ number → o ≡ opened
+        → (n : ℕ) → n ≡ devices_on ws → (begun next : Page)
+        → PutsLine (bytes "least") (cost ∷ h ∷ o ∷ []) start begun → PutsLine (bytes "plans") (k ∷ []) begun next
+        → Puts (hold_lines (plans_from number n room)) next end → ListsSheet ws before r after
+    lists_plans a f cost held number opened h k o e is many count n devices begun next p q s =
+        let same : found ≡ Ok (Plans cost held number opened) = f ∙ ap Ok e in
+        let least = line (bytes "least") digits_of (cost ∷ h ∷ o ∷ []) in
+        let plans = line (bytes "plans") digits_of (k ∷ []) in
         let holds = hold_lines (plans_from number n room) in
-        let few = lines_fit ws 1000000 marks found room x cost held number opened e n devices in
-        let fits : length (least ++ (plans ++ holds)) ≤ 230000 = omega (arith, length-append least (plans ++ holds), length-append plans holds, p.short, q.short) in
-        let all = puts_then least (plans ++ holds) 0 before begins begun r after p.puts (puts_then plans holds begins begun next out r after q.puts s) in
-        in_room_as 230000 (least ++ (plans ++ holds)) before r after (printed_sheet ws)
-        (ap (λ (k : ℕ). least ++ (line (bytes "plans") digits_of (k ∷ []) ++ holds)) (sym (plans_number number n room))
-        ∙ ap (λ (k : ℕ). printed_listing (listed cost held opened (plans_from number k room))) devices
-        ∙ listing_is (Plans cost held number opened) e)
-        (put_in_room 230000 (least ++ (plans ++ holds)) before r after large fits all)
+        let few = lines_fit ws 1000000 marks found room x cost held number opened same n devices in
+        lists (Ok (Plans cost held number opened)) same (least ++ (plans ++ holds))
+        (rw (is, count, many)
+        (ap (λ (j : ℕ). line (bytes "least") digits_of (cost ∷ held ∷ opened ∷ []) ++ (line (bytes "plans") digits_of (j ∷ []) ++ holds)) (sym (plans_number number n room))
+        ∙ ap (λ (j : ℕ). printed_listing (listed cost held opened (plans_from number j room))) devices))
+        (omega (arith, length-append least (plans ++ holds), length-append plans holds, p.short, q.short)) (puts_then p.puts (puts_then q.puts s))

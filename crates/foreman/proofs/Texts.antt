@@ -6,21 +6,21 @@ use Prim.Native.Nat.{ℕ, ◌-◌}
 use native.Mathlib.Omega.{arith}
 use lib.ListN.{length, take}
 use lib.IntN.{ℤ}
+use Rattle.std.specs.Prelude.{Result, Ok, Err}
+use Rattle.refusals.specs.declared.Refused.{Refused}
 use Rattle.lists.specs.Bytes.{bytes}
 use Rattle.typed.specs.Text as text
 use Rattle.typed.specs.Text.{read_text}
 use Rattle.typed.specs.Answer.{Reads}
 use Rattle.typed.specs.declared.Mistake.{Mistake}
-use Rattle.typed.specs.declared.Reading.{Reading}
-use Rattle.typed.specs.declared.Reading.TheVariants.{Words, Refused}
 use Rattle.typed.proofs.WordsRead.{read_words, read_refused}
-use Rattle.printing.specs.Lines.{refused_line}
+use Rattle.printing.specs.declared.Page.{Page}
 use Rattle.printing.specs.Contract.{PutsLine, InRoom}
-use Rattle.printing.proofs.InRoom.{in_room_as, line_in_room}
+use Rattle.printing.proofs.InRoom.{Filled, in_room_as, line_in_room}
 use Rattle.foreman.specs.Printed.{printed_reading, printed_for}
 use Rattle.foreman.specs.Contract.{ListsSheet, ListsText}
 
-module _ (typed : List ℕ) (words : List ℤ) (large : length words ≡ 16384) (reading : Reading) (words' : List ℤ) (reads : Reads typed words reading words')
+module _ (typed : List ℕ) (words : List ℤ) (large : length words ≡ 16384) (reading : Result ℕ (Refused Mistake)) (words' : List ℤ) (reads : Reads typed words reading words')
     (before : List ℕ) (r : ℕ) (after : List ℕ) where
   -- lines in front of the room that are those of the reading
   lists : (x : text.Read (List ℤ)) → read_text typed (length words) ≡ x → InRoom 230000 (printed_reading x) before r after → ListsText typed before r after
@@ -28,12 +28,11 @@ module _ (typed : List ℕ) (words : List ℤ) (large : length words ≡ 16384) 
   lists x e h =
       in_room_as 230000 (printed_reading x) before r after (printed_for typed) (ap printed_reading (sym e) ∙ ap (λ (n : ℕ). printed_reading (read_text typed n)) large) h
 
-  pub lists_mistake : (m : Mistake) (code place : ℕ) → reading ≡ Refused m place → code ≡ text.mistake_code m → length before ≡ 230000
-      → PutsLine (bytes "refused") (code ∷ place ∷ []) 0 before r after → ListsText typed before r after
-  lists_mistake m code place e c size p =
-      let h = line_in_room 230000 (bytes "refused") (code ∷ place ∷ []) before r after size (omega arith) p in
-      lists (text.refused m place) (read_refused typed words reading words' reads m place e)
-      (in_room_as 230000 (refused_line (code ∷ place ∷ [])) before r after (printed_reading (text.refused m place)) (rw c) h)
+  pub lists_mistake : (e : Refused Mistake) (start end : Page) → PutsLine (bytes "refused") (text.mistake_code e.kind ∷ e.place ∷ []) start end
+      → Filled before start end r after → reading ≡ Err e → length before ≡ 230000 → ListsText typed before r after
+  lists_mistake e start end p f same size =
+      let h = line_in_room 230000 (bytes "refused") (text.mistake_code e.kind ∷ e.place ∷ []) before r after start end f size (omega arith) p in
+      lists (text.refused e.kind e.place) (read_refused typed words reading words' reads e same) h
 
-  pub lists_words : (w : ℕ) → reading ≡ Words w → ListsSheet (take (w - 0) words') before r after → ListsText typed before r after
+  pub lists_words : (w : ℕ) → reading ≡ Ok w → ListsSheet (take (w - 0) words') before r after → ListsText typed before r after
   lists_words w e h = lists (text.got (take (w - 0) words')) (read_words typed words reading words' reads w e) h

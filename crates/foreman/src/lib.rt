@@ -11,20 +11,20 @@ ghost use Rattle.foreman.specs.Contract.{ListsSheet, ListsText};
 mod holds;
 
 use holds::put_plans;
+use printing::Page;
 use refusals::Split;
 use tied::Tied;
-use typed::Reading;
 
-// The sheet's number of devices, which is its first word: so many marks has each of its plans.
+// The sheet's number of devices, which is its first word: so many marks has each of its plans. By `Split`, which alone reads a signed word.
 fn devices_on(words: &[i32]) -> usize
     ensures { result ≡ devices_on words.now }
 {
-    if words.len() == 0 {
-        return 0;
-    }
-    match refusals::split_sign(words[0]) {
-        Split::Up(n) => n as usize,
-        Split::Down(k) => k as usize + 1,
+    match words {
+        [] => 0,
+        [first, ..] => match Split::from(*first) {
+            Split::Up(n) => n as usize,
+            Split::Down(k) => k as usize + 1,
+        },
     }
 }
 
@@ -33,28 +33,29 @@ fn list_sheet(words: &[i32], out: &mut [u8; 230000]) -> usize
     ensures { ListsSheet words.now out.old result out.new }
 {
     let mut room = rooms::ties_room();
-    match tied::least_plans(words, 1000000, &mut room) {
-        Tied::Plans(cost, held, number, opened) => {
-            let numbers = [cost, held as u64, opened as u64];
-            let first = printing::put_line(b"least", &numbers, 0, out);
-            let count = [number as u64];
-            let next = printing::put_line(b"plans", &count, first, out);
-            put_plans(devices_on(words), number, &room, next, out)
+    let mut page = Page { room: out, at: 0 };
+    let found = match tied::least_plans(words, 1000000, &mut room) {
+        Ok(found) => found,
+        Err(hindered) => {
+            page.put_refused(hindered);
+            return page.at;
         }
-        Tied::None(opened) => {
-            let numbers = [opened as u64];
-            printing::put_line(b"none", &numbers, 0, out)
+    };
+    match found {
+        Tied::Plans {
+            cost,
+            held,
+            number,
+            opened,
+        } => {
+            page.put_line(b"least", &[cost, u64::from(held), u64::from(opened)]);
+            page.put_line(b"plans", &[u64::from(number)]);
+            put_plans(devices_on(words), number, &room, &mut page);
         }
-        Tied::Spent(opened) => {
-            let numbers = [opened as u64];
-            printing::put_line(b"spent", &numbers, 0, out)
-        }
-        Tied::Refused(hindrance, place) => {
-            let mut numbers = [0u64; 4];
-            let told = tied::numbers_of(hindrance, place, &mut numbers);
-            printing::put_refused(&numbers[0..told], out)
-        }
+        Tied::None(opened) => page.put_line(b"none", &[u64::from(opened)]),
+        Tied::Spent(opened) => page.put_line(b"spent", &[u64::from(opened)]),
     }
+    page.at
 }
 
 // The whole way: the typed text is read into words, the least plans of their sheet are listed, and the answer is printed.
@@ -63,11 +64,11 @@ pub fn list_plans(text: &[u8], out: &mut [u8; 230000]) -> usize
 {
     let mut words = rooms::words_room();
     match typed::read(text, &mut words) {
-        Reading::Refused(mistake, place) => {
-            let code = typed::code_of(mistake) as u64;
-            let numbers = [code, place as u64];
-            printing::put_refused(&numbers, out)
+        Ok(count) => list_sheet(&words[0..count], out),
+        Err(mistaken) => {
+            let mut page = Page { room: out, at: 0 };
+            page.put_refused(mistaken);
+            page.at
         }
-        Reading::Words(w) => list_sheet(&words[0..w], out),
     }
 }

@@ -5,40 +5,37 @@
 -- Assumes nothing.
 use mathlib.Core.Path.{◌≡◌, sym, ◌∙◌, ap, subst}
 use mathlib.Core.List.{List, [], ◌∷◌}
-use Prim.Native.Nat.{ℕ, ◌-◌}
+use Prim.Native.Nat.{ℕ, ◌-◌, ◌≤◌}
 use native.Mathlib.Omega.{arith}
 use lib.ListN.{length, take}
 use lib.IntN.{ℤ}
 use Rattle.lists.specs.Bytes.{bytes}
 use Rattle.lists.proofs.InFront.{front_stands, rest_stays}
-use Rattle.refusals.specs.Contract.{Tells}
-use Rattle.refusals.proofs.ToldNumbers.{told_front, told_short}
+use Rattle.std.specs.Prelude.{Result, Ok, Err}
+use Rattle.refusals.specs.declared.Refused.{Refused}
+use Rattle.refusals.specs.declared.RoomRefusal.{RoomRefusal}
 use Rattle.typed.specs.Text as text
 use Rattle.typed.specs.Text.{read_text}
 use Rattle.typed.specs.Answer.{Reads}
 use Rattle.typed.specs.declared.Mistake.{Mistake}
-use Rattle.typed.specs.declared.Reading.{Reading}
-use Rattle.typed.specs.declared.Reading.TheVariants as typed-says
 use Rattle.typed.proofs.WordsRead.{read_words, read_refused}
+use Rattle.printing.specs.declared.Page.{Page}
 use Rattle.printing.specs.Lines.{refused_line}
 use Rattle.printing.specs.Contract.{PutsLine, InRoom}
-use Rattle.printing.proofs.InRoom.{in_room_as, line_in_room}
+use Rattle.printing.proofs.InRoom.{Filled, in_room_as, line_in_room}
 use Rattle.wcnf.specs.Wcnf as wcnf
 use Rattle.wcnf.specs.Wcnf.{writing}
 use Rattle.wcnf.specs.Contract.{obstacle_numbers, numbers_written, Writes}
 use Rattle.wcnf.specs.declared.Edition.{Edition}
-use Rattle.wcnf.specs.declared.Obstacle.{Obstacle}
-use Rattle.wcnf.specs.declared.Written.{Written}
-use Rattle.wcnf.specs.declared.Written.TheVariants.{Text, Refused}
 use Rattle.wcnf.proofs.WrittenOnly.{obstacle_large, writing_fits, Told, text_told, refused_told}
 use Rattle.handing.specs.Handed.{handed_writing, handed_sheet, handed_reading, handed_for}
 use Rattle.handing.specs.Contract.{HandsSheet, Hands}
 
 -- ── a sheet ──
-module _ (ws : List ℤ) (edition : Edition) (before : List ℕ) (size_is : length before ≡ 100000) (w : Written) (between : List ℕ) (x : Writes ws edition before w between) where
-  pub hands_text : (size : ℕ) → w ≡ Text size → HandsSheet ws edition before size between
+module _ (ws : List ℤ) (edition : Edition) (before : List ℕ) (size_is : length before ≡ 100000) (w : Result ℕ (Refused (RoomRefusal 41))) (between : List ℕ) (x : Writes ws edition before w between) where
+  pub hands_text : (size : ℕ) → w ≡ Ok size → HandsSheet ws edition before size between
   unfolding handed_sheet
-  hands_text size e = go (text_told ws edition before between size (subst (λ (r : Written). Writes ws edition before r between) e x))
+  hands_text size e = go (text_told ws edition before between size (subst (λ (r : Result ℕ (Refused (RoomRefusal 41))). Writes ws edition before r between) e x))
     where
       go : Told ws edition before between size → InRoom 100000 (handed_writing (writing edition ws 100000)) before size between
       go t =
@@ -54,38 +51,35 @@ module _ (ws : List ℤ) (edition : Edition) (before : List ℕ) (size_is : leng
           })
 
   -- the line of a refusal is that of what was to be written
-  refusal_line : (o : Obstacle) (place : ℕ) → w ≡ Refused o place → refused_line (obstacle_numbers o place) ≡ handed_sheet edition ws
+  refusal_line : (o : Refused (RoomRefusal 41)) → w ≡ Err o → refused_line (obstacle_numbers o.kind o.place) ≡ handed_sheet edition ws
   unfolding handed_sheet
-  refusal_line o place e = go (writing edition ws (length before)) (ap (λ (k : ℕ). writing edition ws k) size_is) (refused_told ws edition before between o place (subst (λ (r : Written). Writes ws edition before r between) e x)).0
+  refusal_line o e = go (writing edition ws (length before)) (ap (λ (k : ℕ). writing edition ws k) size_is) (refused_told ws edition before between o (subst (λ (r : Result ℕ (Refused (RoomRefusal 41))). Writes ws edition before r between) e x)).0
     where
-      go : (y : wcnf.Writing) → y ≡ writing edition ws 100000 → numbers_written y ≡ obstacle_numbers o place → refused_line (obstacle_numbers o place) ≡ handed_writing (writing edition ws 100000)
-      go (wcnf.text t) is says = absurd (omega (arith, obstacle_large o place _ (sym says)))
+      go : (y : wcnf.Writing) → y ≡ writing edition ws 100000 → numbers_written y ≡ obstacle_numbers o.kind o.place → refused_line (obstacle_numbers o.kind o.place) ≡ handed_writing (writing edition ws 100000)
+      go (wcnf.text t) is says = absurd (omega (arith, obstacle_large o.kind o.place _ (sym says)))
       go (wcnf.bad_sheet f i) is says = ap refused_line (sym says) ∙ ap handed_writing is
       go (wcnf.short_room n) is says = ap refused_line (sym says) ∙ ap handed_writing is
 
-  pub hands_refused : (o : Obstacle) (place : ℕ) → w ≡ Refused o place → (numbers numbers' : List ℕ) (told : ℕ) → Tells (obstacle_numbers o place) numbers told numbers'
-      → (r : ℕ) (after : List ℕ) → PutsLine (bytes "refused") (take (told - 0) numbers') 0 between r after → HandsSheet ws edition before r after
-  hands_refused o place e numbers numbers' told t r after p =
-      let same = (refused_told ws edition before between o place (subst (λ (r : Written). Writes ws edition before r between) e x)).1 in
-      let short = told_short (obstacle_numbers o place) numbers told numbers' t in
-      in_room_as 100000 (refused_line (take (told - 0) numbers')) before r after (handed_sheet edition ws)
-      (ap refused_line (told_front (obstacle_numbers o place) numbers told numbers' t) ∙ refusal_line o place e)
-      (line_in_room 100000 (bytes "refused") (take (told - 0) numbers') before r after size_is (omega arith) (rw same at p))
+  pub hands_refused : (o : Refused (RoomRefusal 41)) → w ≡ Err o → (start end : Page) → PutsLine (bytes "refused") (obstacle_numbers o.kind o.place) start end
+      → length (obstacle_numbers o.kind o.place) ≤ 3 → (r : ℕ) (after : List ℕ) → Filled between start end r after → HandsSheet ws edition before r after
+  hands_refused o e start end p few r after filled =
+      let same = (refused_told ws edition before between o (subst (λ (r : Result ℕ (Refused (RoomRefusal 41))). Writes ws edition before r between) e x)).1 in
+      in_room_as 100000 (refused_line (obstacle_numbers o.kind o.place)) before r after (handed_sheet edition ws) (refusal_line o e)
+      (line_in_room 100000 (bytes "refused") (obstacle_numbers o.kind o.place) before r after start end (rw same at filled) size_is (omega arith) p)
 
 -- ── a typed text ──
-module _ (typed : List ℕ) (edition : Edition) (words : List ℤ) (large : length words ≡ 16384) (reading : Reading) (words' : List ℤ) (reads : Reads typed words reading words')
+module _ (typed : List ℕ) (edition : Edition) (words : List ℤ) (large : length words ≡ 16384) (reading : Result ℕ (Refused Mistake)) (words' : List ℤ) (reads : Reads typed words reading words')
     (before : List ℕ) (r : ℕ) (after : List ℕ) where
   hands : (x : text.Read (List ℤ)) → read_text typed (length words) ≡ x → InRoom 100000 (handed_reading edition x) before r after → Hands typed edition before r after
   unfolding handed_for
   hands x e h =
       in_room_as 100000 (handed_reading edition x) before r after (handed_for edition typed) (ap (handed_reading edition) (sym e) ∙ ap (λ (n : ℕ). handed_reading edition (read_text typed n)) large) h
 
-  pub hands_mistake : (m : Mistake) (code place : ℕ) → reading ≡ typed-says.Refused m place → code ≡ text.mistake_code m → length before ≡ 100000
-      → PutsLine (bytes "refused") (code ∷ place ∷ []) 0 before r after → Hands typed edition before r after
-  hands_mistake m code place e c size p =
-      let h = line_in_room 100000 (bytes "refused") (code ∷ place ∷ []) before r after size (omega arith) p in
-      hands (text.refused m place) (read_refused typed words reading words' reads m place e)
-      (in_room_as 100000 (refused_line (code ∷ place ∷ [])) before r after (handed_reading edition (text.refused m place)) (rw c) h)
+  pub hands_mistake : (e : Refused Mistake) (start end : Page) → PutsLine (bytes "refused") (text.mistake_code e.kind ∷ e.place ∷ []) start end
+      → Filled before start end r after → reading ≡ Err e → length before ≡ 100000 → Hands typed edition before r after
+  hands_mistake e start end p f same size =
+      let h = line_in_room 100000 (bytes "refused") (text.mistake_code e.kind ∷ e.place ∷ []) before r after start end f size (omega arith) p in
+      hands (text.refused e.kind e.place) (read_refused typed words reading words' reads e same) h
 
-  pub hands_words : (w : ℕ) → reading ≡ typed-says.Words w → HandsSheet (take (w - 0) words') edition before r after → Hands typed edition before r after
+  pub hands_words : (w : ℕ) → reading ≡ Ok w → HandsSheet (take (w - 0) words') edition before r after → Hands typed edition before r after
   hands_words w e h = hands (text.got (take (w - 0) words')) (read_words typed words reading words' reads w e) h

@@ -4,34 +4,20 @@
 ghost use Rattle.std.specs.Prelude.{◌≡◌};
 ghost use Rattle.handing.specs.Contract.{chosen, HandsSheet, Hands};
 
-mod arguments;
+use printing::Page;
+use wcnf::Edition;
 
-use arguments::is_old;
-use typed::Reading;
-use wcnf::{Edition, Written};
-
-// The edition that a program's arguments ask for; or they ask for nothing that there is.
-#[derive(Clone, Copy)]
-pub enum Choice {
-    In(Edition),
-    Unknown,
-}
-
-// By the number of arguments, the program's name among them, and the first behind the name: none asks for the edition from 2022, `old` alone
-// for the one before.
-pub fn edition_for(count: usize, word: &[u8]) -> Choice
+// The edition that a program's arguments ask for, by how many they are, the program's name among them, and the first behind the name: none
+// asks for the edition from 2022, `old` alone for the one before, and any other for none that there is. 02, request 4: "Both editions are
+// kept".
+pub fn edition_for(count: usize, word: &[u8]) -> Option<Edition>
     ensures { result ≡ chosen count word.now }
 {
-    if count < 2 {
-        return Choice::In(Edition::Since2022);
+    match count {
+        0 | 1 => Some(Edition::Since2022),
+        2 if word == b"old".as_slice() => Some(Edition::Before2022),
+        _ => None,
     }
-    if count > 2 {
-        return Choice::Unknown;
-    }
-    if is_old(word) {
-        return Choice::In(Edition::Before2022);
-    }
-    Choice::Unknown
 }
 
 // Behind the reader: the text of a sheet, or the line of its refusal.
@@ -39,11 +25,11 @@ fn hand_sheet(words: &[i32], edition: Edition, out: &mut [u8; 100000]) -> usize
     ensures { HandsSheet words.now edition out.old result out.new }
 {
     match wcnf::write(words, edition, out) {
-        Written::Text(size) => size,
-        Written::Refused(obstacle, place) => {
-            let mut numbers = [0u64; 4];
-            let told = wcnf::numbers_of(obstacle, place, &mut numbers);
-            printing::put_refused(&numbers[0..told], out)
+        Ok(size) => size,
+        Err(obstacle) => {
+            let mut page = Page { room: out, at: 0 };
+            page.put_refused(obstacle);
+            page.at
         }
     }
 }
@@ -54,11 +40,11 @@ pub fn hand_over(text: &[u8], edition: Edition, out: &mut [u8; 100000]) -> usize
 {
     let mut words = rooms::words_room();
     match typed::read(text, &mut words) {
-        Reading::Refused(mistake, place) => {
-            let code = typed::code_of(mistake) as u64;
-            let numbers = [code, place as u64];
-            printing::put_refused(&numbers, out)
+        Ok(count) => hand_sheet(&words[0..count], edition, out),
+        Err(mistaken) => {
+            let mut page = Page { room: out, at: 0 };
+            page.put_refused(mistaken);
+            page.at
         }
-        Reading::Words(w) => hand_sheet(&words[0..w], edition, out),
     }
 }

@@ -1,8 +1,5 @@
--- The input that was read: as many bytes as the room has, or fewer. Definitions only.
-use Rattle.std.specs.Prelude.{List, ℕ, ◌≤◌, length}
-use Rattle.input.specs.declared.Input.{Input}
-use Rattle.input.specs.declared.Input.TheVariants.{Bytes, Failed}
+-- The input that was read: as many bytes as the room has, or fewer; of input that could not be read nothing is said. Definitions only.
+use Rattle.std.specs.Prelude.{List, ℕ, ◌≤◌, length, Result, IfOk}
 
-abbrev pub Within : Input → List ℕ → Type 0
-Within (Bytes n) room = n ≤ length room
-Within Failed room = Unit {0}
+abbrev pub Within : {E : Type 0} → Result ℕ E → List ℕ → Type 0
+Within r room = IfOk r (λ n. n ≤ length room)

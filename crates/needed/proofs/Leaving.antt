@@ -16,8 +16,8 @@ use Rattle.hall.specs.Hall.{Rule, names_both, leave_out}
 use Rattle.hall.specs.Bound.{entries}
 use Rattle.sheet.specs.Coded.{entries_of, rule_of, rules_of, entry_codes, starts_from}
 use Rattle.sheet.proofs.Standing.{codes_append, codes_length}
-use Rattle.sheet.proofs.Codes.{ends_within, named_at, rules_one, entries_length}
-use Rattle.needed.specs.Leaving.{Stampable, Stamps, Movable, Moves, Leavable, LeavesOut}
+use Rattle.sheet.proofs.Codes.{named_at, rules_one, entries_length}
+use Rattle.needed.specs.Leaving.{Stampable, Stamps, Moves, Leavable, LeavesOut}
 use Rattle.needed.proofs.Moving.{sets_behind}
 
 -- ── a rule that is left out, and one that stays ──
@@ -88,9 +88,6 @@ none_done {codes} {starts} {m} {end} s e blank long =
       starts_left = rw (o, z) refl;
     }
 
-pub start_short : {codes starts : List ℕ} {m : ℕ} → Leavable codes starts m → get_or starts 0 0 ≤ 16384
-start_short s = let a = s.first in omega arith
-
 module _ {codes₀ starts₀ : List ℕ} {m : ℕ} {codes starts stamps : List ℕ} {end to left r : ℕ} (x : Leaving codes₀ starts₀ m codes starts stamps end to left r) where
   pub all_done : m ≤ r → LeavesOut codes₀ starts₀ m left codes starts
   unfolding rules_of leave_out entries entry_codes ends_from
@@ -114,9 +111,6 @@ module _ {codes₀ starts₀ : List ℕ} {m : ℕ} {codes starts stamps : List �
 
     rises : end ≤ next
     rises = let a = x.asked.laid.rise r more in let b = x.ends in let c = next_start in omega arith
-
-    pub next_short : next ≤ 16384
-    next_short = let a = ends_within x.asked.laid r more in let b = next_start in let c = x.asked.short in omega arith
 
     rule : Rule
     rule = rule_of codes₀ starts₀ r
@@ -146,9 +140,6 @@ module _ {codes₀ starts₀ : List ℕ} {m : ℕ} {codes starts stamps : List �
       earlier = λ c. let l = x.earlier c in omega arith;
     }
 
-    pub movable : Movable codes end next to
-    movable = record { upto = rises; within = testable.within; down = x.down }
-
     pub left_one : {stamps' : List ℕ} {b : Bool} → length stamps' ≡ 400 → Stamps codes end next (r + 1) b stamps' → b ≡ true → Leaving codes₀ starts₀ m codes starts stamps' next to left (r + 1)
     unfolding rule behind
     left_one long t out =
@@ -174,9 +165,6 @@ module _ {codes₀ starts₀ : List ℕ} {m : ℕ} {codes starts stamps : List �
         }
 
     module _ {to' : ℕ} {codes' : List ℕ} (mv : Moves codes end next to to' codes') where
-      pub moved_short : to' ≤ 16384
-      moved_short = let a = mv.behind in let b = x.down in let c = rises in let d = next_short in omega arith
-
       to_behind : to' ≡ to + length rule
       to_behind = let a = mv.behind in omega (arith, rule_long)
 

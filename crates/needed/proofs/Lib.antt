@@ -5,3 +5,4 @@ pub mod Leaving
 pub mod Needing
 pub mod Lying
 pub mod Only
+pub mod RuleCodes

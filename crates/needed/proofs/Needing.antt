@@ -1,7 +1,7 @@
 -- From what the sheet's reader and `leave_out` give to the contract of `read`.
 --
--- In order: a refused sheet (`reads_refused`); an accepted sheet: its hall (`WholeHall`, `whole_hall`), that the rules which every plan
--- meets can be left out of it (`reads_leavable`), and what is then read (`reads_hall`). Assumes nothing.
+-- In order, of an accepted sheet: its hall (`WholeHall`, `read_whole`), that the rules which every plan meets can be left out of it
+-- (`reads_leavable`), and what is then read (`reads_hall`). Assumes nothing.
 use mathlib.Core.Path.{◌≡◌, refl, sym, ◌∙◌, ap, subst}
 use mathlib.Core.List.{List, [], ◌∷◌}
 use Prim.Native.Nat.{ℕ, suc, ◌≤◌}
@@ -9,6 +9,7 @@ use native.Mathlib.Omega.{arith}
 use lib.ListN.{length, get_or}
 use lib.Seq.{sets}
 use lib.IntN.{ℤ}
+use Rattle.std.specs.Prelude.{Ok}
 use Rattle.lists.specs.Lists.{in_front}
 use Rattle.lists.proofs.InFront.{front_fits, sets_in_front}
 use Rattle.hall.specs.Hall.{Rule, Hall, leave_out}
@@ -18,12 +19,9 @@ use Rattle.hall.specs.Reading.{Read, bad, got, decode}
 use Rattle.hall.proofs.LeftOut.{left_fewer, left_shorter}
 use Rattle.hall.proofs.Reasons.{decoded}
 use Rattle.hall.proofs.Refusals.{code_large}
-use Rattle.refusals.specs.Contract.{fault_of, numbers_at}
-use Rattle.refusals.specs.declared.Refusal.{Refusal}
 use Rattle.sheet.specs.Coded.{rules_of, Laid, entry_codes, starts_from}
-use Rattle.sheet.specs.Contract.{numbers_of, numbers_read, Holds, ArraysAfter, Decodes}
-use Rattle.sheet.specs.declared.Sheet.{Sheet}
-use Rattle.sheet.specs.declared.Sheet.TheVariants as sheet
+use Rattle.sheet.specs.Contract.{numbers_read, Holds, ArraysAfter, Decodes}
+use Rattle.sheet.specs.declared.Size.{Size}
 use Rattle.sheet.proofs.Standing.{codes_length, starts_length, few_entries}
 use Rattle.sheet.proofs.Coded.{hall_back, hall_end, hall_laid}
 use Rattle.needed.specs.Contract.{needed_of, ArraysLeft, ReadsNeeded}
@@ -38,91 +36,78 @@ from_zero starts (r ∷ rs) = refl
 same_numbers : {n k left m : ℕ} → n ≡ k → left ≡ m → ◌≡◌ {A = List ℕ} (0 ∷ n ∷ left ∷ []) (0 ∷ k ∷ m ∷ [])
 same_numbers e f = rw (e, f) refl
 
-module _ {ws : List ℤ} {room : ℕ} {costs codes starts costs' codes' starts' : List ℕ} {s : Sheet} (d : Decodes ws room costs codes starts s costs' codes' starts') where
-  -- ── a refused sheet ──
-  pub reads_refused : {kind : Refusal} {place : ℕ} → s ≡ sheet.Refused kind place → ReadsNeeded ws room costs codes starts (sheet.Refused kind place) costs' codes' starts'
-  reads_refused {kind} {place} e = go (decode room ws) refl (sym (ap numbers_of e) ∙ d.says) d.arrays
-    where
-      go : (x : Read Hall) → decode room ws ≡ x → numbers_at kind place ≡ numbers_read x → ArraysAfter x costs codes starts costs' codes' starts' → ReadsNeeded ws room costs codes starts (sheet.Refused kind place) costs' codes' starts'
-      go (bad f i) u q a = record { says = q ∙ sym (ap (λ x. numbers_read (needed_of x)) u); arrays = subst (λ (x : Read Hall). ArraysLeft x costs codes starts costs' codes' starts') (sym u) a }
-      go (got h j) u q a = absurd (omega (arith, code_large (fault_of kind) place _ q))
-
-  -- ── an accepted sheet ──
-  record WholeHall (n m : ℕ) : Type 0 where
+module _ {ws : List ℤ} {room : ℕ} {costs codes starts costs' codes' starts' : List ℕ} {s : Size} (d : Decodes ws room costs codes starts (Ok s) costs' codes' starts') where
+  record WholeHall : Type 0 where
     whole : Hall
     place : ℕ
     is : decode room ws ≡ got whole place
-    devices : length whole.costs ≡ n
-    count : length whole.rules ≡ m
+    devices : length whole.costs ≡ s.devices
+    count : length whole.rules ≡ s.rules
     sheet_of_lem : SheetOf whole ws room
     holds : Holds whole costs codes starts costs' codes' starts'
 
-  whole_hall : (n m : ℕ) → s ≡ sheet.Hall n m → WholeHall n m
-  whole_hall n m e = go (decode room ws) refl (sym (ap numbers_of e) ∙ d.says) d.arrays
+  read_whole : WholeHall
+  read_whole = go (decode room ws) refl d.says d.arrays
     where
-      go : (x : Read Hall) → decode room ws ≡ x → 0 ∷ n ∷ m ∷ [] ≡ numbers_read x → ArraysAfter x costs codes starts costs' codes' starts' → WholeHall n m
+      go : (x : Read Hall) → decode room ws ≡ x → 0 ∷ s.devices ∷ s.rules ∷ [] ≡ numbers_read x → ArraysAfter x costs codes starts costs' codes' starts' → WholeHall
       go (bad f i) u q a = absurd (omega (arith, code_large f i _ (sym q)))
       go (got h j) u q a = record { whole = h; place = j; is = u; devices = cc; count = cc; sheet_of_lem = decoded ws room h j u; holds = a }
 
-  module _ {n m : ℕ} (e : s ≡ sheet.Hall n m) where
-    read_whole : WholeHall n m
-    read_whole = whole_hall n m e
+  h : Hall
+  h = read_whole.whole
 
-    h : Hall
-    h = read_whole.whole
+  starts_room : suc (length h.rules) ≤ length starts'
+  unfolding h
+  starts_room = let g = read_whole in omega (arith, starts_length 0 g.whole.rules, ap length g.holds.starts_hold, front_fits (starts_from 0 g.whole.rules) starts)
 
-    starts_room : suc (length h.rules) ≤ length starts'
-    unfolding h
-    starts_room = let g = read_whole in omega (arith, starts_length 0 g.whole.rules, ap length g.holds.starts_hold, front_fits (starts_from 0 g.whole.rules) starts)
+  codes_room : length (entries h.rules) ≤ length codes'
+  unfolding h
+  codes_room = let g = read_whole in omega (arith, codes_length (entries g.whole.rules), ap length g.holds.codes_hold, front_fits (entry_codes (entries g.whole.rules)) codes)
 
-    codes_room : length (entries h.rules) ≤ length codes'
-    unfolding h
-    codes_room = let g = read_whole in omega (arith, codes_length (entries g.whole.rules), ap length g.holds.codes_hold, front_fits (entry_codes (entries g.whole.rules)) codes)
+  pub reads_leavable : Leavable codes' starts' s.rules
+  unfolding h
+  reads_leavable =
+      let g = read_whole in
+      let count = g.count in
+      let ranges = g.sheet_of_lem.ranges in
+      let devices = ranges.devices in
+      let few = ranges.count in
+      let laid = subst (Laid (length g.whole.costs) codes' starts') count (hall_laid g.whole costs codes starts costs' codes' starts' g.holds ranges) in
+      let end = hall_end g.whole costs codes starts costs' codes' starts' g.holds in
+      record {
+        laid = record { rise = laid.rise; narrow = laid.narrow; within = laid.within; named = λ i l. let v = laid.named i l in omega arith };
+        first = ap (λ (ss : List ℕ). get_or ss 0 0) g.holds.starts_hold ∙ from_zero starts g.whole.rules;
+        short = subst (λ (k : ℕ). get_or starts' k 0 ≤ 16384) count (omega (arith, end, few_entries g.sheet_of_lem));
+        count = omega arith;
+        room = omega (arith, starts_room);
+      }
 
-    pub reads_leavable : Leavable codes' starts' m
-    unfolding h
-    reads_leavable =
-        let g = read_whole in
-        let count = g.count in
-        let ranges = g.sheet_of_lem.ranges in
-        let devices = ranges.devices in
-        let few = ranges.count in
-        let laid = subst (Laid (length g.whole.costs) codes' starts') count (hall_laid g.whole costs codes starts costs' codes' starts' g.holds ranges) in
-        let end = hall_end g.whole costs codes starts costs' codes' starts' g.holds in
-        record {
-          laid = record { rise = laid.rise; narrow = laid.narrow; within = laid.within; named = λ i l. let v = laid.named i l in omega arith };
-          first = ap (λ (ss : List ℕ). get_or ss 0 0) g.holds.starts_hold ∙ from_zero starts g.whole.rules;
-          short = subst (λ (k : ℕ). get_or starts' k 0 ≤ 16384) count (omega (arith, end, few_entries g.sheet_of_lem));
-          count = omega arith;
-          room = omega (arith, starts_room);
-        }
+  -- the rules in the arrays are the hall's
+  rules_are : rules_of codes' starts' 0 s.rules ≡ h.rules
+  unfolding h
+  rules_are =
+      let g = read_whole in
+      subst (λ (k : ℕ). rules_of codes' starts' 0 k ≡ g.whole.rules) g.count (ap (λ (x : Hall). x.rules) (hall_back g.whole costs codes starts costs' codes' starts' g.holds))
 
-    -- the rules in the arrays are the hall's
-    rules_are : rules_of codes' starts' 0 m ≡ h.rules
-    unfolding h
-    rules_are =
-        let g = read_whole in
-        subst (λ (k : ℕ). rules_of codes' starts' 0 k ≡ g.whole.rules) g.count (ap (λ (x : Hall). x.rules) (hall_back g.whole costs codes starts costs' codes' starts' g.holds))
-
-    pub reads_hall : {left : ℕ} {codes'' starts'' : List ℕ} → LeavesOut codes' starts' m left codes'' starts'' → ReadsNeeded ws room costs codes starts (sheet.Hall n left) costs' codes'' starts''
-    unfolding h
-    reads_hall {left} {codes''} {starts''} out =
-        let g = read_whole in
-        let rules = ap leave_out rules_are in
-        let number : left ≡ length (leave_out g.whole.rules) = out.number ∙ ap length rules in
-        record {
-          says = same_numbers (sym g.devices) number ∙ sym (ap (λ x. numbers_read (needed_of x)) g.is);
-          arrays = subst (λ (x : Read Hall). ArraysLeft x costs codes starts costs' codes'' starts'') (sym g.is) (record {
-            costs_hold = g.holds.costs_hold;
-            codes_hold =
-                out.codes_left
-                ∙ ap (λ (rs : List Rule). sets codes' 0 (entry_codes (entries rs))) rules
-                ∙ sets_in_front (entry_codes (entries (leave_out g.whole.rules))) codes' (omega (arith, codes_room, left_shorter g.whole.rules, codes_length (entries (leave_out g.whole.rules))))
-                ∙ ap (in_front (entry_codes (entries (leave_out g.whole.rules)))) g.holds.codes_hold;
-            starts_hold =
-                out.starts_left
-                ∙ ap (λ (rs : List Rule). sets starts' 0 (starts_from 0 rs)) rules
-                ∙ sets_in_front (starts_from 0 (leave_out g.whole.rules)) starts' (omega (arith, starts_room, left_fewer g.whole.rules, starts_length 0 (leave_out g.whole.rules)))
-                ∙ ap (in_front (starts_from 0 (leave_out g.whole.rules))) g.holds.starts_hold;
-          });
-        }
+  pub reads_hall : {left : ℕ} {codes'' starts'' : List ℕ} → LeavesOut codes' starts' s.rules left codes'' starts'' → ReadsNeeded ws room costs codes starts (Ok (record { devices = s.devices; rules = left })) costs' codes'' starts''
+  unfolding h
+  reads_hall {left} {codes''} {starts''} out =
+      let g = read_whole in
+      let rules = ap leave_out rules_are in
+      let number : left ≡ length (leave_out g.whole.rules) = out.number ∙ ap length rules in
+      record {
+        says = same_numbers (sym g.devices) number ∙ sym (ap (λ x. numbers_read (needed_of x)) g.is);
+        arrays = subst (λ (x : Read Hall). ArraysLeft x costs codes starts costs' codes'' starts'') (sym g.is) (record {
+          costs_hold = g.holds.costs_hold;
+          codes_hold =
+              out.codes_left
+              ∙ ap (λ (rs : List Rule). sets codes' 0 (entry_codes (entries rs))) rules
+              ∙ sets_in_front (entry_codes (entries (leave_out g.whole.rules))) codes' (omega (arith, codes_room, left_shorter g.whole.rules, codes_length (entries (leave_out g.whole.rules))))
+              ∙ ap (in_front (entry_codes (entries (leave_out g.whole.rules)))) g.holds.codes_hold;
+          starts_hold =
+              out.starts_left
+              ∙ ap (λ (rs : List Rule). sets starts' 0 (starts_from 0 rs)) rules
+              ∙ sets_in_front (starts_from 0 (leave_out g.whole.rules)) starts' (omega (arith, starts_room, left_fewer g.whole.rules, starts_length 0 (leave_out g.whole.rules)))
+              ∙ ap (in_front (starts_from 0 (leave_out g.whole.rules))) g.holds.starts_hold;
+        });
+      }

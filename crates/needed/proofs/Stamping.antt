@@ -9,8 +9,9 @@ use mathlib.Core.Bool.{true, false}
 use mathlib.Core.List.{List}
 use Prim.Native.Nat.{ℕ, zero, suc, ◌+◌, ◌-◌, ◌*◌, ◌/◌, ◌%◌, ◌≤◌, ◌<◌}
 use native.Mathlib.Omega.{arith}
-use lib.ListN.{length, length-set, get_or, set}
+use lib.ListN.{length, length-set, get_or, set, take, drop}
 use lib.Seq.{get_or-set_same, get_or-set_other}
+use Rattle.std.proofs.lemmas.List.{get_or-take, get_or-drop, length-take}
 use Rattle.lists.specs.Lists.{Each, In}
 use Rattle.lists.proofs.Cases.{Tri, below, level, above, tri, fails}
 use Rattle.hall.specs.Hall.{Entry, at1, at0, Rule, opposite, names_both}
@@ -105,10 +106,10 @@ module _ {codes : List ℕ} {from end rule : ℕ} {stamps₀ : List ℕ} {i : �
     here : In (entry_of (get_or codes i 0)) (entries_of codes from (end - from))
     here = let b = x.begun in entry_in codes from (end - from) i b (omega arith)
 
-    pub opposite_seen : get_or stamps r 0 ≡ rule → Stamps codes from end rule true stamps
+    opposite_seen : get_or stamps r 0 ≡ rule → Stamps codes from end rule true stamps
     opposite_seen e = record { says = sym (both_named (entry_of (get_or codes i 0)) _ here (rw o.says at (x.stands r e))); earlier = x.earlier }
 
-    pub seen_one : get_or codes i 0 < length stamps → (get_or stamps r 0 ≡ rule → ⊥) → Stamped codes from end rule stamps₀ (i + 1) (set stamps (get_or codes i 0) rule)
+    seen_one : get_or codes i 0 < length stamps → (get_or stamps r 0 ≡ rule → ⊥) → Stamped codes from end rule stamps₀ (i + 1) (set stamps (get_or codes i 0) rule)
     seen_one fits other = let b = x.begun in record {
       begun = omega arith;
       inside = omega arith;
@@ -148,3 +149,25 @@ module _ {codes : List ℕ} {from end rule : ℕ} {stamps₀ : List ℕ} {i : �
         apart_too c d h k (new e v) (old f w) u = alone d (sym w ∙ k) (rw e at u)
         apart_too c d h k (old e v) (new f w) u = alone c (sym v ∙ h) (opposite_back (entry_of code) (entry_of c) (rw f at u))
         apart_too c d h k (old e v) (old f w) u = x.apart c d (sym v ∙ h) (sym w ∙ k) u
+
+-- the code at hand is the one at this place of the rule's part
+module _ {codes : List ℕ} {from end rule : ℕ} {stamps₀ : List ℕ} {k : ℕ} {stamps : List ℕ} (s : Stampable codes from end rule stamps₀) (x : Stamped codes from end rule stamps₀ (from + k) stamps)
+    (l : k < length (take (end - from) (drop from codes))) where
+  part_long : k < end - from
+  part_long = omega (arith, length-take (end - from) (drop from codes))
+
+  part_at : get_or (take (end - from) (drop from codes)) k 0 ≡ get_or codes (from + k) 0
+  part_at = get_or-take (end - from) (drop from codes) k 0 part_long ∙ get_or-drop from codes k 0
+
+  module _ {r : ℕ} (o : Opposes (get_or (take (end - from) (drop from codes)) k 0) r) where
+    pub part_opposite : get_or stamps r 0 ≡ rule → Stamps codes from end rule true stamps
+    part_opposite e = let p = part_long in opposite_seen x (omega arith) (rw part_at at o) e
+
+    pub part_seen : (get_or stamps r 0 ≡ rule → ⊥) → Stamped codes from end rule stamps₀ (from + (k + 1)) (set stamps (get_or (take (end - from) (drop from codes)) k 0) rule)
+    part_seen other =
+        let p = part_long in
+        let named = s.named (from + k) (omega arith) (omega arith) in
+        let room = s.room in
+        let long = x.as_long in
+        let next : from + (k + 1) ≡ from + k + 1 = omega arith in
+        rw (part_at, next) (seen_one x (omega arith) (rw part_at at o) (omega arith) other)

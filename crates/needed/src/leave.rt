@@ -5,13 +5,6 @@
 ghost use Rattle.std.specs.Prelude.{◌≡◌, ◌<◌, ◌/◌, replicate};
 ghost use Rattle.needed.specs.Leaving.{Opposes, Stampable, Stamps, Movable, Moves, Leavable, LeavesOut};
 
-// Room for the stamps of all codes.
-fn stamps_room() -> [u16; 400]
-    ensures { result ≡ replicate 400 0 }
-{
-    [0u16; 400]
-}
-
 // The code of the other entry of the same device.
 fn opposite(code: u16) -> u16
     requires { code / 2 < 200 }
@@ -25,14 +18,11 @@ fn names_both(codes: &[u16], from: usize, end: usize, rule: u16, stamps: &mut [u
     requires { Stampable codes.now from end rule stamps.old }
     ensures { Stamps codes.now from end rule result stamps.new }
 {
-    let mut i = from;
-    while i < end {
-        let code = codes[i];
+    for &code in &codes[from..end] {
         if stamps[opposite(code) as usize] == rule {
             return true;
         }
         stamps[code as usize] = rule;
-        i += 1;
     }
     false
 }
@@ -42,17 +32,8 @@ fn move_down(codes: &mut [u16], from: usize, end: usize, to: usize) -> usize
     requires { Movable codes.old from end to }
     ensures { Moves codes.old from end to result codes.new }
 {
-    if to == from {
-        return end;
-    }
-    let mut i = from;
-    let mut j = to;
-    while i < end {
-        codes[j] = codes[i];
-        i += 1;
-        j += 1;
-    }
-    j
+    codes.copy_within(from..end, to);
+    to + (end - from)
 }
 
 // Leaves out the rules that name both positions of a device, and gives the number of those left.
@@ -60,16 +41,14 @@ pub(crate) fn leave_out(codes: &mut [u16], starts: &mut [u16], m: usize) -> usiz
     requires { Leavable codes.old starts.old m }
     ensures { LeavesOut codes.old starts.old m result codes.new starts.new }
 {
-    let mut stamps = stamps_room();
+    let mut stamps = [0u16; 400];
     let mut end = starts[0] as usize;
     let mut to = end;
     let mut left: usize = 0;
-    let mut r: usize = 0;
-    while r < m {
+    for r in 0..m {
         let from = end;
-        r += 1;
-        end = starts[r] as usize;
-        if names_both(codes, from, end, r as u16, &mut stamps) {
+        end = starts[r + 1] as usize;
+        if names_both(codes, from, end, (r + 1) as u16, &mut stamps) {
             continue;
         }
         to = move_down(codes, from, end, to);

@@ -6,10 +6,13 @@
 
 ghost use Rattle.needed.specs.Contract.{ReadsNeeded};
 
+mod coded;
 mod leave;
 
+pub use coded::Coded;
 use leave::leave_out;
-use sheet::Sheet;
+use refusals::{Refusal, Refused};
+use sheet::Size;
 
 // Reads a sheet as `sheet::read` does, with the same refusals; a hall's number of rules is that of the rules left. Its costs, the
 // codes of those rules and their starts go to the front of the arrays.
@@ -19,11 +22,12 @@ pub fn read(
     costs: &mut [u32; 200],
     codes: &mut [u16; 16384],
     starts: &mut [u16; 2001],
-) -> Sheet
+) -> Result<Size, Refused<Refusal>>
     ensures { ReadsNeeded words.now room costs.old codes.old starts.old result costs.new codes.new starts.new }
 {
-    match sheet::read(words, room, costs, codes, starts) {
-        Sheet::Refused(kind, place) => Sheet::Refused(kind, place),
-        Sheet::Hall(n, m) => Sheet::Hall(n, leave_out(codes, starts, m)),
-    }
+    let size = sheet::read(words, room, costs, codes, starts)?;
+    Ok(Size {
+        rules: leave_out(codes, starts, size.rules),
+        ..size
+    })
 }

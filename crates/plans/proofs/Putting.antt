@@ -8,6 +8,7 @@ use mathlib.Core.Bool.{Bool, true, false}
 use mathlib.Core.List.{List, [], ◌∷◌, ◌++◌, append_assoc, append-nil}
 use Prim.Native.Nat.{ℕ, ◌+◌, ◌-◌, ◌≤◌, ◌<◌}
 use native.Mathlib.Omega.{arith}
+use Rattle.std.specs.Prelude.{None, Some}
 use lib.ListN.{length, take, drop, length-append, length-drop, take-append-drop, drop_of_length-le}
 use lib.Seq.{length-take-le, take_all, drop-drop, take_at, drop_at}
 use borrow.Author.Tests.{le-leb, lt-leb}
@@ -64,17 +65,16 @@ part_start n run before l = record {
   leaves = rw (behind_all n run) refl;
 }
 
-module _ (n : ℕ) (run before : List ℕ) (last : Plan) (at : ℕ) (room : List ℕ) (part : Partway n run before last at room) (next : Plan)
-    (told : next ≡ first_of [] (behind last (plans_in n run))) where
-  pub part_end : length run ≤ length before → length next ≡ 0 → PutsInOrder n run before true room
+module _ (n : ℕ) (run before : List ℕ) (last : Plan) (at : ℕ) (room : List ℕ) (part : Partway n run before last at room) where
+  pub part_end : length run ≤ length before → None ≡ first_of (behind last (plans_in n run)) → PutsInOrder n run before true room
   unfolding in_order joined
-  part_end l e =
+  part_end l told =
       let t = le-leb (length run) (length before) l in
-      record { says = sym t; room = rw t (sym (take-append-drop at room) ∙ (rw (next_none last (plans_in n run) next told e) at part.leaves)) }
+      record { says = sym t; room = rw t (sym (take-append-drop at room) ∙ (rw (next_none last (plans_in n run) told) at part.leaves)) }
 
-  module _ (some : length next ≡ 0 → ⊥) where
+  module _ (next : Plan) (told : Some next ≡ first_of (behind last (plans_in n run))) where
     order : left n run last ≡ next ∷ left n run next
-    order = next_order last (plans_in n run) next told some
+    order = next_order last (plans_in n run) next told
 
     pub part_fewer : length (left n run next) < length (left n run last)
     part_fewer = omega (arith, ap length order)

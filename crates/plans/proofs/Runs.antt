@@ -1,18 +1,18 @@
 -- The plans in a run.
 --
--- In order: a run and its plans, by computation (`runs_right`); each has n marks (`plans_sized`); no plans of no marks (`plans_none`); from
--- a place of the run on, where n marks are left (`plans_more`) and where fewer are (`plans_end`); plans joined are as long as they are
+-- In order: a run and its plans, by computation (`runs_right`); each has n marks (`plans_sized`); no plans of no marks (`plans_none`); the
+-- first plan of a run (`whole`), and none where it has fewer marks (`no_whole`); plans joined are as long as they are
 -- together (`joined_length`), and the plans in them are those plans (`plans_joined`), also where more stands behind them
 -- (`plans_in_front`); the plans in a run, joined, are no longer than it (`plans_short`), in order neither (`order_short`). Assumes nothing.
 use mathlib.Core.Path.{◌≡◌, refl, ◌∙◌}
 use mathlib.Core.Bool.{Bool, true, false}
 use mathlib.Core.List.{List, [], ◌∷◌, ◌++◌, append_assoc}
-use Prim.Native.Nat.{ℕ, zero, suc, ◌+◌, ◌-◌, ◌*◌, ◌/◌, ◌≤◌, ◌<◌}
+use Prim.Native.Nat.{ℕ, zero, suc, ◌+◌, ◌*◌, ◌/◌, ◌≤◌, ◌<◌}
 use native.Mathlib.Nat.{div-eq_of_lt, div-eq-sub-div, div-zero, div-mul-le_self, suc-mul}
 use native.Mathlib.Numerals.{add-one}
 use native.Mathlib.Omega.{arith}
 use lib.ListN.{length, take, drop, length-append, length-take, length-drop}
-use lib.Seq.{length-take-le, drop-drop, take_at, drop_at}
+use lib.Seq.{length-take-le, take_at, drop_at}
 use Rattle.lists.specs.Lists.{Each}
 use Rattle.hall.specs.Hall.{Plan}
 use Rattle.hall.specs.Order.{less}
@@ -39,24 +39,18 @@ pub plans_sized : (n : ℕ) (run : List ℕ) → Sized n (plans_in n run)
 unfolding plans_in
 plans_sized n run = sized_from (length run / n) n run (div-mul-le_self (length run) n)
 
--- ── from a place on ──
+-- ── the first of them ──
 pub plans_none : (n : ℕ) (run : List ℕ) → n ≡ 0 → plans_in n run ≡ []
 unfolding plans_in plans_from
 plans_none n run e = rw (e, div-zero (length run)) refl
 
-whole : (n : ℕ) (run : List ℕ) → 0 < n → n ≤ length run → plans_in n run ≡ take n run ∷ plans_in n (drop n run)
+pub whole : (n : ℕ) (run : List ℕ) → 0 < n → n ≤ length run → plans_in n run ≡ take n run ∷ plans_in n (drop n run)
 unfolding plans_in plans_from
 whole n run s l = rw (div-eq-sub-div s l, add-one, length-drop n run) refl
 
-module _ (n : ℕ) (run : List ℕ) (at : ℕ) where
-  pub plans_more : 0 < n → n ≤ length run - at → plans_in n (drop at run) ≡ take (at + n - at) (drop at run) ∷ plans_in n (drop (at + n) run)
-  plans_more s l =
-      let size : at + n - at ≡ n = omega arith in
-      rw (size, ← drop-drop n at run) (whole n (drop at run) s (omega (arith, length-drop at run)))
-
-  pub plans_end : length run - at < n → plans_in n (drop at run) ≡ []
-  unfolding plans_in plans_from
-  plans_end l = rw (length-drop at run, div-eq_of_lt l) refl
+pub no_whole : (n : ℕ) (run : List ℕ) → length run < n → plans_in n run ≡ []
+unfolding plans_in plans_from
+no_whole n run l = rw (div-eq_of_lt l) refl
 
 -- ── joined ──
 pub joined_length : (n : ℕ) (ts : List Plan) → Sized n ts → length (joined ts) ≡ length ts * n
@@ -66,7 +60,7 @@ joined_length n (t ∷ ts) s = omega (arith, length-append t (joined ts), joined
 
 pub plans_joined : (n : ℕ) (ts : List Plan) → 0 < n → Sized n ts → plans_in n (joined ts) ≡ ts
 unfolding joined
-plans_joined n [] p s = plans_end n [] 0 (omega arith)
+plans_joined n [] p s = no_whole n [] p
 plans_joined n (t ∷ ts) p s =
     whole n (t ++ joined ts) p (omega (arith, length-append t (joined ts), s.0))
     ∙ rw (take_at t (joined ts) n s.0, drop_at t (joined ts) n s.0, plans_joined n ts p s.1) refl

@@ -2,7 +2,8 @@
 -- written into the part behind the last one, the rest unchanged."
 --
 -- In order: the plans in a run; a plan written into a room; a run put in order into a room; the next plan in order. Definitions only.
-use Rattle.std.specs.Prelude.{◌≡◌, Bool, cond, ◌||◌, List, [], ◌∷◌, ℕ, zero, suc, ◌/◌, length, take, drop, leb, eqb}
+use Rattle.std.specs.Prelude.{◌≡◌, Bool, cond, List, [], ◌∷◌, ℕ, zero, suc, ◌/◌, length, take, drop, leb, Option}
+use Rattle.std.specs.List.{filter, reduce}
 use Rattle.lists.specs.Lists.{in_front}
 use Rattle.hall.specs.Hall.{Plan}
 use Rattle.hall.specs.Order.{less}
@@ -30,15 +31,13 @@ pub record PutsInOrder (n : ℕ) (run before : List ℕ) (r : Bool) (after : Lis
 
 -- ── one plan after the other ──
 -- of some plans, those that come behind one
-unfoldable pub behind : Plan → List Plan → List Plan
-behind last [] = []
-behind last (p ∷ ps) = cond (less last p) (p ∷ behind last ps) (behind last ps)
+abbrev pub behind : Plan → List Plan → List Plan
+behind last = filter (less last)
 
--- whether a plan comes before the best so far, which is [] where there is none yet
-unfoldable pub sooner : Plan → (best : Plan) → Bool
-sooner p best = eqb (length best) 0 || less p best
+-- of two plans, the one that comes first; the first of them where they are the same
+abbrev pub first_of_two : Plan → Plan → Plan
+first_of_two best p = cond (less p best) p best
 
--- the first in order of the best so far and some plans
-unfoldable pub first_of : (best : Plan) → List Plan → Plan
-first_of best [] = best
-first_of best (p ∷ ps) = first_of (cond (sooner p best) p best) ps
+-- the first in order of some plans, where there is one
+abbrev pub first_of : List Plan → Option Plan
+first_of = reduce first_of_two

@@ -1,4 +1,4 @@
--- Lines in front of a room: where they were put there and have place (`put_in_room`); as other lines that are the same
+-- Lines in front of a room: where they were put on a page of it from its front on (`Filled`) and have place (`put_in_room`); as other lines that are the same
 -- (`in_room_as`); what is to be written lies within the room (`reply_within`); a line of numbers (`line_in_room`); the lines fix
 -- the length and the room (`in_room_only`). Assumes nothing.
 use mathlib.Core.Path.{◌≡◌, sym, ◌∙◌, ap, subst}
@@ -10,13 +10,23 @@ use Rattle.lists.specs.Lists.{in_front}
 use Rattle.lists.proofs.InFront.{front_stands, rest_stays, sets_in_front}
 use Rattle.typed.specs.Printing.{digits_of}
 use Rattle.printing.specs.Lines.{line}
-use Rattle.printing.specs.Contract.{Puts, PutsLine, InRoom}
+use Rattle.printing.specs.declared.Page.{Page}
+use Rattle.printing.specs.Contract.{Stores, Puts, PutsLine, InRoom}
+
+-- a page was made of a whole room, and at its end r is its place and after its room
+pub record Filled (before : List ℕ) (start end : Page) (r : ℕ) (after : List ℕ) : Type 0 where
+  pub begins : start.at ≡ 0
+  pub lent : start.room.now ≡ before
+  pub ends : r ≡ end.at
+  pub leaves : after ≡ end.room.now
 
 module _ (size : ℕ) (lines before : List ℕ) (r : ℕ) (after : List ℕ) where
-  pub put_in_room : length before ≡ size → length lines ≤ size → Puts lines 0 before r after → InRoom size lines before r after
-  put_in_room size_is fits p =
-      let says : r ≡ length lines = omega (arith, p.ends) in
-      let room : after ≡ in_front lines before = p.leaves ∙ sets_in_front lines before (omega arith) in
+  pub put_in_room : (start end : Page) → Filled before start end r after → length before ≡ size → length lines ≤ size → Puts lines start end
+      → InRoom size lines before r after
+  put_in_room start end f size_is fits p =
+      let stores : Stores lines 0 before r after = rw (f.ends, f.leaves, ← f.begins, ← f.lent) p.stores in
+      let says : r ≡ length lines = omega (arith, stores.ends) in
+      let room : after ≡ in_front lines before = stores.leaves ∙ sets_in_front lines before (omega arith) in
       record {
         size_is = size_is;
         says = says;
@@ -32,10 +42,11 @@ module _ (size : ℕ) (lines before : List ℕ) (r : ℕ) (after : List ℕ) whe
   pub reply_within : InRoom size lines before r after → r ≤ length after
   reply_within h = omega (arith, h.says, ap length h.front, length-take r after)
 
-pub line_in_room : (size : ℕ) (word numbers before : List ℕ) (r : ℕ) (after : List ℕ) → length before ≡ size
-    → length word + 21 * length numbers + 1 ≤ size → PutsLine word numbers 0 before r after → InRoom size (line word digits_of numbers) before r after
-line_in_room size word numbers before r after size_is fits p =
-    put_in_room size (line word digits_of numbers) before r after size_is (omega (arith, p.short)) p.puts
+pub line_in_room : (size : ℕ) (word numbers before : List ℕ) (r : ℕ) (after : List ℕ) (start end : Page) → Filled before start end r after
+    → length before ≡ size → length word + 21 * length numbers + 1 ≤ size → PutsLine word numbers start end
+    → InRoom size (line word digits_of numbers) before r after
+line_in_room size word numbers before r after start end f size_is fits p =
+    put_in_room size (line word digits_of numbers) before r after start end f size_is (omega (arith, p.short)) p.puts
 
 pub in_room_only : (size : ℕ) (lines before : List ℕ) (r r' : ℕ) (after after' : List ℕ) → InRoom size lines before r after
     → InRoom size lines before r' after' → (r ≡ r') × (after ≡ after')

@@ -1,4 +1,4 @@
--- Digits, and how long a line is; bytes put into a room, one run behind another; the held devices, one by one; a reply in front of its
+-- Digits, and how long a line is; bytes put on a page, one run behind another; the held devices, one by one; a reply in front of its
 -- room; that the contracts leave no choice.
 pub mod Digits
 pub mod Lengths

@@ -4,31 +4,25 @@ ghost use Rattle.hall.specs.Order.{held_by, held_entries};
 ghost use Rattle.printing.specs.Lines.{printed_entries};
 ghost use Rattle.printing.specs.Contract.{Puts};
 
-use crate::put_number;
+use crate::Page;
 
 // One device, by its mark; devices are numbered from 0 here.
-fn put_device(mark: u8, device: usize, at: usize, out: &mut [u8]) -> usize
+fn put_device(mark: u8, device: usize, page: &mut Page<'_>)
     requires { device + 1 < 2 ^ 64 }
-    ensures { Puts (printed_entries (held_by mark device [])) at out.old result out.new }
+    ensures { Puts (printed_entries (held_by mark device [])) page.old page.new }
 {
-    if mark == 1 {
-        return put_number(b" ", (device + 1) as u64, at, out);
+    match mark {
+        1 => page.put_number(b" ", (device + 1) as u64),
+        2 => page.put_number(b" -", (device + 1) as u64),
+        _ => {}
     }
-    if mark == 2 {
-        return put_number(b" -", (device + 1) as u64, at, out);
-    }
-    at
 }
 
 // The devices that a plan holds, in rising order.
-pub(crate) fn put_devices(plan: &[u8], at: usize, out: &mut [u8]) -> usize
-    ensures { Puts (printed_entries (held_entries plan.now)) at out.old result out.new }
+pub(crate) fn put_devices(plan: &[u8], page: &mut Page<'_>)
+    ensures { Puts (printed_entries (held_entries plan.now)) page.old page.new }
 {
-    let mut next = at;
-    let mut device: usize = 0;
-    while device < plan.len() {
-        next = put_device(plan[device], device, next, out);
-        device += 1;
+    for (device, mark) in plan.iter().enumerate() {
+        put_device(*mark, device, page);
     }
-    next
 }

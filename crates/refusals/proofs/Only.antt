@@ -1,4 +1,4 @@
--- The contract leaves no choice: equal numbers, equal refusals (`refusal_only`); two results that the contract of `numbers_of` allows
+-- The contract leaves no choice: equal numbers, equal refusals (`refusal_only`); two results that the contract of `tell` allows
 -- are equal, the array included (`tells_only`). Assumes nothing.
 use mathlib.Core.Path.{◌≡◌, sym, ◌∙◌, ap}
 use mathlib.Core.List.{List}

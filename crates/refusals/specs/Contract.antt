@@ -1,4 +1,4 @@
--- The contract of `numbers_of` and of `tell_code`: the paper's numbers of a refusal, and the lent array afterwards.
+-- The contract of `tell` and of `tell_code`: the paper's numbers of a refusal, and the lent array afterwards.
 --
 -- In order: the kind of a refusal, from the code's enum to the definitions and back; its numbers; the contract. Definitions only.
 use Rattle.std.specs.Prelude.{◌≡◌, List, ℕ, ◌≤◌, length}
@@ -35,7 +35,7 @@ kind_of (bad_width rule) = BadWidth rule
 abbrev pub numbers_at : Refusal → (place : ℕ) → List ℕ
 numbers_at kind place = refusal_numbers (fault_of kind) place
 
--- the contract of `numbers_of`, for these numbers: r is how many they are, at most three; they stand in front of the array, and the rest
+-- the contract of `tell`, for these numbers: r is how many they are, at most three; they stand in front of the array, and the rest
 -- is as it was
 pub record Tells (told before : List ℕ) (r : ℕ) (after : List ℕ) : Type 0 where
   pub says : r ≡ length told

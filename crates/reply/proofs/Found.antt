@@ -14,7 +14,10 @@ use Rattle.hall.specs.Answer as hall
 use Rattle.hall.specs.Answer.{answer, numbers, room_after}
 use Rattle.refusals.proofs.Faults.{fault_kind}
 use Rattle.search.specs.Contract.{numbers_of, Finds}
-use Rattle.search.proofs.Finds.{Matches, match}
+use Rattle.search.proofs.Finds.{result_of, match}
+use Rattle.std.specs.Prelude.{Result}
+use Rattle.refusals.specs.declared.Refusal.{Refusal}
+use Rattle.refusals.specs.declared.Refused.{Refused}
 use Rattle.search.specs.declared.Answer.{Answer}
 use Rattle.printing.proofs.InRoom.{in_room_as}
 use Rattle.reply.specs.Printed.{printed_answer, printed_search}
@@ -39,17 +42,17 @@ held_room plan after e l =
 
 -- ── the same numbers, the same lines ──
 module _ (after : List ℕ) (short : length after ≤ 200) where
-  same_case : (r : Answer) (a : hall.Answer) → Matches r a → after ≡ room_after a (replicate 200 0) → lines_of r after ≡ printed_answer a
+  same_case : (r : Result Answer (Refused Refusal)) (a : hall.Answer) → r ≡ result_of a → after ≡ room_after a (replicate 200 0) → lines_of r after ≡ printed_answer a
   same_case r (hall.least cost held opened plan) m room = rw (m, held_room plan after room short)
   same_case r (hall.none opened) m room = rw m
   same_case r (hall.spent opened) m room = rw m
   same_case r (hall.refused f place) m room = rw (m, fault_kind f)
 
-  same_lines : (r : Answer) (a : hall.Answer) → numbers_of r ≡ numbers a → after ≡ room_after a (replicate 200 0) → lines_of r after ≡ printed_answer a
+  same_lines : (r : Result Answer (Refused Refusal)) (a : hall.Answer) → numbers_of r ≡ numbers a → after ≡ room_after a (replicate 200 0) → lines_of r after ≡ printed_answer a
   same_lines r a e room = same_case r a (match r a e) room
 
 -- ── the whole ──
-pub printed_found : (words : List ℤ) (marks : List ℕ) (found : Answer) (plan before : List ℕ) (r : ℕ) (after : List ℕ) → marks ≡ replicate 200 0
+pub printed_found : (words : List ℤ) (marks : List ℕ) (found : Result Answer (Refused Refusal)) (plan before : List ℕ) (r : ℕ) (after : List ℕ) → marks ≡ replicate 200 0
     → Finds words 1000000 marks found plan → length plan ≡ length marks → Prints found plan before r after → Searched words before r after
 printed_found words marks found plan before r after blank finds kept p =
     let n : length marks ≡ 200 = ap length blank ∙ length-replicate {A = ℕ} 200 0 in

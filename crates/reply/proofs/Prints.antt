@@ -1,52 +1,52 @@
--- The contract of `print_answer`, for each case of the answer (`prints_least`, `prints_none`, `prints_spent`, `prints_refused`). Each line
--- of numbers has place, by its contract, and so has the line of the held devices behind it. Assumes nothing.
-use mathlib.Core.Path.{◌≡◌}
+-- The contract of `put_answer`, for each case of the answer (`puts_least`, `puts_none`, `puts_spent`), and that of `print_answer`
+-- (`prints_found`, `prints_refused`). Each line of numbers has place, by its contract, and so has the line of the held devices behind it.
+-- Assumes nothing.
+use mathlib.Core.Path.{◌≡◌, refl}
 use mathlib.Core.List.{List, [], ◌∷◌, ◌++◌}
 use Prim.Native.Nat.{ℕ, ◌-◌, ◌≤◌}
 use native.Mathlib.Omega.{arith}
 use lib.ListN.{length, take, length-append}
 use lib.Seq.{take_all}
 use Rattle.lists.specs.Bytes.{bytes}
-use Rattle.refusals.specs.Contract.{numbers_at, Tells}
+use Rattle.std.specs.Prelude.{Result, Ok, Err}
 use Rattle.refusals.specs.declared.Refusal.{Refusal}
-use Rattle.refusals.proofs.ToldNumbers.{told_front, told_short}
+use Rattle.refusals.specs.declared.Refused.{Refused}
+use Rattle.refusals.specs.Contract.{numbers_at}
 use Rattle.typed.specs.Printing.{digits_of}
 use Rattle.search.specs.declared.Answer.{Answer}
-use Rattle.search.specs.declared.Answer.TheVariants.{Least, None, Spent, Refused}
-use Rattle.printing.specs.Lines.{line, hold_line, refused_line}
-use Rattle.printing.specs.Contract.{Puts, PutsLine, InRoom}
+use Rattle.search.specs.declared.Answer.TheVariants.{Least, None, Spent}
+use Rattle.printing.specs.declared.Page.{Page}
+use Rattle.printing.specs.Lines.{line, hold_line}
+use Rattle.printing.specs.Contract.{Puts, PutsLine}
 use Rattle.printing.proofs.Lengths.{hold_short}
 use Rattle.printing.proofs.Putting.{puts_then}
-use Rattle.printing.proofs.InRoom.{put_in_room, in_room_as, line_in_room}
-use Rattle.reply.specs.Contract.{lines_of, Prints}
+use Rattle.printing.proofs.InRoom.{Filled, put_in_room}
+use Rattle.reply.specs.Contract.{lines_of, PutsAnswer, Prints}
 
-module _ (answer : Answer) (plan before : List ℕ) (r : ℕ) (after : List ℕ) (size : length before ≡ 1024) where
-  prints : (lines : List ℕ) → lines ≡ lines_of answer plan → InRoom 1024 lines before r after → Prints answer plan before r after
-  prints lines e h = in_room_as 1024 lines before r after (lines_of answer plan) e h
+-- ── an answer that is no refusal ──
+module _ (answer : Answer) (plan : List ℕ) (start end : Page) where
+  puts_lines : (lines : List ℕ) → lines ≡ lines_of (Ok answer) plan → length lines ≤ 1024 → Puts lines start end → PutsAnswer (Ok answer) plan start end
+  puts_lines lines e fits p = record { puts = rw (← e) p; short = rw (← e) fits }
 
-  pub prints_least : (cost held opened next : ℕ) (out : List ℕ) → answer ≡ Least cost held opened
-      → PutsLine (bytes "least") (cost ∷ held ∷ opened ∷ []) 0 before next out → length plan ≡ 200 → Puts (hold_line plan) next out r after
-      → Prints answer plan before r after
-  prints_least cost held opened next out e p marks q =
-      let first = line (bytes "least") digits_of (cost ∷ held ∷ opened ∷ []) in
-      let second = hold_line plan in
-      let fits : length (first ++ second) ≤ 1024 = omega (arith, length-append first second, p.short, hold_short plan (omega arith)) in
-      let both = puts_then first second 0 before next out r after p.puts q in
-      prints (first ++ second) (rw (e, take_all 200 plan (omega arith))) (put_in_room 1024 (first ++ second) before r after size fits both)
+  -- `h` and `o` are the numbers as they are printed, which are wider
+  pub puts_least : (cost held opened h o : ℕ) (next : Page) → answer ≡ Least cost held opened → h ≡ held → o ≡ opened
+      → PutsLine (bytes "least") (cost ∷ h ∷ o ∷ []) start next → length plan ≡ 200 → Puts (hold_line plan) next end → PutsAnswer (Ok answer) plan start end
+  puts_least cost held opened h o next e same number p marks q =
+      let first = line (bytes "least") digits_of (cost ∷ h ∷ o ∷ []) in
+      puts_lines (first ++ hold_line plan) (rw (e, take_all 200 plan (omega arith), same, number) refl)
+      (omega (arith, length-append first (hold_line plan), p.short, hold_short plan (omega arith))) (puts_then p.puts q)
 
-  pub prints_none : (opened : ℕ) → answer ≡ None opened → PutsLine (bytes "none") (opened ∷ []) 0 before r after → Prints answer plan before r after
-  prints_none opened e p =
-      prints (line (bytes "none") digits_of (opened ∷ [])) (rw e) (line_in_room 1024 (bytes "none") (opened ∷ []) before r after size (omega arith) p)
+  pub puts_none : (opened o : ℕ) → answer ≡ None opened → o ≡ opened → PutsLine (bytes "none") (o ∷ []) start end → PutsAnswer (Ok answer) plan start end
+  puts_none opened o e number p = puts_lines _ (rw (e, number) refl) (omega (arith, p.short)) p.puts
 
-  pub prints_spent : (opened : ℕ) → answer ≡ Spent opened → PutsLine (bytes "spent") (opened ∷ []) 0 before r after → Prints answer plan before r after
-  prints_spent opened e p =
-      prints (line (bytes "spent") digits_of (opened ∷ [])) (rw e) (line_in_room 1024 (bytes "spent") (opened ∷ []) before r after size (omega arith) p)
+  pub puts_spent : (opened o : ℕ) → answer ≡ Spent opened → o ≡ opened → PutsLine (bytes "spent") (o ∷ []) start end → PutsAnswer (Ok answer) plan start end
+  puts_spent opened o e number p = puts_lines _ (rw (e, number) refl) (omega (arith, p.short)) p.puts
 
-  -- the numbers of a refusal are those that stand in front of the array, as many as was told
-  pub prints_refused : (kind : Refusal) (place : ℕ) (numbers numbers' : List ℕ) (count : ℕ) → answer ≡ Refused kind place → Tells (numbers_at kind place) numbers count numbers'
-      → PutsLine (bytes "refused") (take (count - 0) numbers') 0 before r after → Prints answer plan before r after
-  prints_refused kind place numbers numbers' count e t p =
-      let told = take (count - 0) numbers' in
-      let few = told_short (numbers_at kind place) numbers count numbers' t in
-      prints (refused_line told) (rw (e, told_front (numbers_at kind place) numbers count numbers' t))
-      (line_in_room 1024 (bytes "refused") told before r after size (omega arith) p)
+-- ── the room ──
+module _ (answer : Result Answer (Refused Refusal)) (plan before : List ℕ) (r : ℕ) (after : List ℕ) (start end : Page) (filled : Filled before start end r after) (size : length before ≡ 1024) where
+  pub prints_found : (found : Answer) → answer ≡ Ok found → PutsAnswer (Ok found) plan start end → Prints answer plan before r after
+  prints_found found e p = rw e (put_in_room 1024 (lines_of (Ok found) plan) before r after start end filled size p.short p.puts)
+
+  pub prints_refused : (e : Refused Refusal) → answer ≡ Err e → PutsLine (bytes "refused") (numbers_at e.kind e.place) start end
+      → length (numbers_at e.kind e.place) ≤ 3 → Prints answer plan before r after
+  prints_refused e same p few = rw same (put_in_room 1024 (lines_of (Err e) plan) before r after start end filled size (omega (arith, p.short)) p.puts)

@@ -6,21 +6,21 @@ use Prim.Native.Nat.{ℕ, ◌-◌}
 use native.Mathlib.Omega.{arith}
 use lib.ListN.{length, take}
 use lib.IntN.{ℤ}
+use Rattle.std.specs.Prelude.{Result, Ok, Err}
+use Rattle.refusals.specs.declared.Refused.{Refused}
 use Rattle.lists.specs.Bytes.{bytes}
 use Rattle.typed.specs.Text as text
 use Rattle.typed.specs.Text.{read_text}
 use Rattle.typed.specs.Answer.{Reads}
 use Rattle.typed.specs.declared.Mistake.{Mistake}
-use Rattle.typed.specs.declared.Reading.{Reading}
-use Rattle.typed.specs.declared.Reading.TheVariants.{Words, Refused}
 use Rattle.typed.proofs.WordsRead.{read_words, read_refused}
-use Rattle.printing.specs.Lines.{refused_line}
+use Rattle.printing.specs.declared.Page.{Page}
 use Rattle.printing.specs.Contract.{PutsLine, InRoom}
-use Rattle.printing.proofs.InRoom.{in_room_as, line_in_room}
+use Rattle.printing.proofs.InRoom.{Filled, in_room_as, line_in_room}
 use Rattle.reply.specs.Printed.{printed_reading, printed_for}
 use Rattle.reply.specs.Contract.{Searched, Replies}
 
-module _ (typed : List ℕ) (words : List ℤ) (large : length words ≡ 16384) (reading : Reading) (words' : List ℤ) (reads : Reads typed words reading words')
+module _ (typed : List ℕ) (words : List ℤ) (large : length words ≡ 16384) (reading : Result ℕ (Refused Mistake)) (words' : List ℤ) (reads : Reads typed words reading words')
     (before : List ℕ) (r : ℕ) (after : List ℕ) where
   -- lines in front of the room that are those of the reading
   replies : (x : text.Read (List ℤ)) → read_text typed (length words) ≡ x → InRoom 1024 (printed_reading x) before r after → Replies typed before r after
@@ -28,13 +28,11 @@ module _ (typed : List ℕ) (words : List ℤ) (large : length words ≡ 16384) 
   replies x e h =
       in_room_as 1024 (printed_reading x) before r after (printed_for typed) (ap printed_reading (sym e) ∙ ap (λ (n : ℕ). printed_reading (read_text typed n)) large) h
 
-  pub replies_refused : (m : Mistake) (code place : ℕ) → reading ≡ Refused m place → code ≡ text.mistake_code m → length before ≡ 1024
-      → PutsLine (bytes "refused") (code ∷ place ∷ []) 0 before r after → Replies typed before r after
-  replies_refused m code place e c size p =
-      let lines = refused_line (code ∷ place ∷ []) in
-      let h = line_in_room 1024 (bytes "refused") (code ∷ place ∷ []) before r after size (omega arith) p in
-      replies (text.refused m place) (read_refused typed words reading words' reads m place e)
-      (in_room_as 1024 lines before r after (printed_reading (text.refused m place)) (rw c) h)
-
-  pub replies_words : (w : ℕ) → reading ≡ Words w → Searched (take (w - 0) words') before r after → Replies typed before r after
+  pub replies_words : (w : ℕ) → reading ≡ Ok w → Searched (take (w - 0) words') before r after → Replies typed before r after
   replies_words w e h = replies (text.got (take (w - 0) words')) (read_words typed words reading words' reads w e) h
+
+  pub replies_refused : (e : Refused Mistake) (start end : Page) → PutsLine (bytes "refused") (text.mistake_code e.kind ∷ e.place ∷ []) start end
+      → Filled before start end r after → reading ≡ Err e → length before ≡ 1024 → Replies typed before r after
+  replies_refused e start end p f same size =
+      let h = line_in_room 1024 (bytes "refused") (text.mistake_code e.kind ∷ e.place ∷ []) before r after start end f size (omega arith) p in
+      replies (text.refused e.kind e.place) (read_refused typed words reading words' reads e same) h

@@ -4,36 +4,41 @@
 // `printing` puts the lines: that of the held devices, and every other, which is a word and its numbers.
 #![tactic(auto)]
 
-ghost use Rattle.reply.specs.Contract.{Prints, Searched, Replies, RepliesFile};
+ghost use Rattle.std.specs.Prelude.{Ok};
+ghost use Rattle.reply.specs.Contract.{PutsAnswer, Prints, Searched, Replies, RepliesFile};
 
-use dimacs::Filed;
+use printing::Page;
+use refusals::{Refusal, Refused};
 use search::Answer;
-use typed::Reading;
 
-// The lines of an answer, with the devices that the plan holds; a mark other than 1 and 2 holds nothing.
-pub fn print_answer(answer: Answer, plan: &[u8; 200], out: &mut [u8; 1024]) -> usize
-    ensures { Prints answer plan.now out.old result out.new }
+// The lines of an answer that is no refusal.
+fn put_answer(answer: Answer, plan: &[u8; 200], page: &mut Page<'_>)
+    ensures { PutsAnswer (Ok answer) plan.now page.old page.new }
 {
     match answer {
-        Answer::Least(cost, held, opened) => {
-            let numbers = [cost, held as u64, opened as u64];
-            let next = printing::put_line(b"least", &numbers, 0, out);
-            printing::put_hold(plan, next, out)
+        Answer::Least { cost, held, opened } => {
+            page.put_line(b"least", &[cost, u64::from(held), u64::from(opened)]);
+            page.put_hold(plan);
         }
-        Answer::None(opened) => {
-            let numbers = [opened as u64];
-            printing::put_line(b"none", &numbers, 0, out)
-        }
-        Answer::Spent(opened) => {
-            let numbers = [opened as u64];
-            printing::put_line(b"spent", &numbers, 0, out)
-        }
-        Answer::Refused(kind, place) => {
-            let mut numbers = [0u64; 4];
-            let count = refusals::numbers_of(kind, place, &mut numbers);
-            printing::put_refused(&numbers[0..count], out)
-        }
+        Answer::None(opened) => page.put_line(b"none", &[u64::from(opened)]),
+        Answer::Spent(opened) => page.put_line(b"spent", &[u64::from(opened)]),
     }
+}
+
+// The lines of an answer, with the devices that the plan holds; a mark other than 1 and 2 holds nothing.
+pub fn print_answer(
+    answer: Result<Answer, Refused<Refusal>>,
+    plan: &[u8; 200],
+    out: &mut [u8; 1024],
+) -> usize
+    ensures { Prints answer plan.now out.old result out.new }
+{
+    let mut page = Page { room: out, at: 0 };
+    match answer {
+        Ok(found) => put_answer(found, plan, &mut page),
+        Err(refused) => page.put_refused(refused),
+    }
+    page.at
 }
 
 // Behind either reader: the least plan of a sheet is searched, and the answer is printed.
@@ -45,18 +50,19 @@ fn searched(words: &[i32], out: &mut [u8; 1024]) -> usize
     print_answer(found, &plan, out)
 }
 
-// The whole way: the text is read into words, the least plan of their sheet is searched, and the answer is printed.
+// The whole way: the text is read into words, the least plan of their sheet is searched, and the answer is printed. `answer_file` has
+// another reader and another kind of refusal: one function over both would have to say of any reader what the two contracts say of theirs.
 pub fn answer(text: &[u8], out: &mut [u8; 1024]) -> usize
     ensures { Replies text.now out.old result out.new }
 {
     let mut words = rooms::words_room();
     match typed::read(text, &mut words) {
-        Reading::Refused(mistake, place) => {
-            let code = typed::code_of(mistake) as u64;
-            let numbers = [code, place as u64];
-            printing::put_refused(&numbers, out)
+        Ok(count) => searched(&words[0..count], out),
+        Err(mistaken) => {
+            let mut page = Page { room: out, at: 0 };
+            page.put_refused(mistaken);
+            page.at
         }
-        Reading::Words(w) => searched(&words[0..w], out),
     }
 }
 
@@ -66,11 +72,11 @@ pub fn answer_file(text: &[u8], out: &mut [u8; 1024]) -> usize
 {
     let mut words = rooms::words_room();
     match dimacs::read(text, &mut words) {
-        Filed::Refused(flaw, place) => {
-            let mut numbers = [0u64; 4];
-            let told = dimacs::numbers_of(flaw, place, &mut numbers);
-            printing::put_refused(&numbers[0..told], out)
+        Ok(length) => searched(&words[0..length], out),
+        Err(flawed) => {
+            let mut page = Page { room: out, at: 0 };
+            page.put_refused(flawed);
+            page.at
         }
-        Filed::Words(w) => searched(&words[0..w], out),
     }
 }

@@ -1,7 +1,8 @@
 // The rooms of fixed size that one function makes and others are lent, each filled with 0.
 //
 // Each is made by a function of its own: where a function that proves something wrote `[0; 16384]` itself, the elements would be spelled
-// out in its every goal.
+// out in its every goal. They are eleven and not one over a type and a size: a call of that one would be no plainer than `[0; 16384]`, and
+// each has its size in its contract, with two wrong programs that are about this room.
 #![tactic(auto)]
 
 ghost use Rattle.std.specs.Prelude.{◌≡◌, replicate, pos};

@@ -1,8 +1,9 @@
 -- From what the walk of the sheet finds to the contract of `least_plan`.
 --
--- In order: the plan stands in front of the room of our own (`in_front_lem`), and has place in the caller's; how many devices there are at
--- most (`found_few`); each case of the outcome (`found_least`, `found_none`, `found_spent`, `found_refused`). Assumes nothing.
-use mathlib.Core.Path.{◌≡◌, refl, ◌∙◌, ap}
+-- In order: the plan stands in front of the room of our own (`in_front_lem`); the answer and the room that the code makes of an outcome
+-- (`given`, `handed`); of the outcome of an answer these are its numbers (`given_numbers`) and its room (`handed_room`), and it has few
+-- devices (`found_few`). The claim, for whatever the outcome was: `found`. Assumes nothing.
+use mathlib.Core.Path.{◌≡◌, refl, sym, ◌∙◌, ap, subst}
 use mathlib.Core.List.{List, [], ◌∷◌, append-nil}
 use Prim.Native.Nat.{ℕ, ◌-◌, ◌≤◌}
 use native.Mathlib.Nat.{sub-zero}
@@ -13,11 +14,12 @@ use Rattle.lists.proofs.InFront.{front_stands}
 use Rattle.hall.specs.Hall.{Plan}
 use Rattle.hall.specs.Answer as hall
 use Rattle.hall.specs.Answer.{answer, numbers, room_after}
-use Rattle.hall.specs.Demands.{SaysLeast, Answered}
+use Rattle.hall.specs.Demands.{Answered}
 use Rattle.hall.specs.Ties.{joined}
 use Rattle.hall.proofs.Answers.{answered}
-use Rattle.refusals.specs.Contract.{kind_of}
 use Rattle.refusals.specs.declared.Refusal.{Refusal}
+use Rattle.refusals.specs.declared.Refused.{Refused}
+use Rattle.std.specs.Prelude.{⊤, Result, Ok, Err}
 use Rattle.refusals.proofs.Faults.{fault_kind}
 use Rattle.plans.specs.Runs.{written_in}
 use Rattle.plans.proofs.Writing.{write_fits}
@@ -26,7 +28,8 @@ use Rattle.walk.specs.declared.Outcome.TheVariants as walk
 use Rattle.walk.specs.Contract as walks
 use Rattle.walk.specs.Contract.{found_room, found_of, best_found}
 use Rattle.walk.proofs.Outcomes.{outcome_of, outcome_is}
-use Rattle.search.specs.declared.Answer.TheVariants.{Least, None, Spent, Refused}
+use Rattle.search.specs.declared.Answer.TheVariants.{Least, None, Spent}
+use Rattle.search.specs.declared.Answer.{Answer}
 use Rattle.search.specs.Contract.{numbers_of, Finds}
 use Rattle.search.proofs.Finds.{finds}
 
@@ -39,80 +42,63 @@ in_front_lem p room l =
     ∙ ap (take (length p)) (write_fits p room l)
     ∙ front_stands p room
 
-module _ (ws : List ℤ) (budget : ℕ) (before best best' : List ℕ) (r : Outcome) (x : walks.Finds (best_found ws (length before) budget) best r best') where
-  -- the outcome of an answer, with its least plan alone
-  abbrev outcome : hall.Answer → Outcome
-  outcome a = outcome_of (found_of (λ p. p ∷ []) a)
+-- ── what the code makes of an outcome ──
+abbrev pub given : Result Outcome (Refused Refusal) → Result Answer (Refused Refusal)
+given (Ok (walk.Best n cost held equal opened)) = Ok (Least cost held opened)
+given (Ok (walk.None opened)) = Ok (None opened)
+given (Ok (walk.Spent opened)) = Ok (Spent opened)
+given (Err e) = Err e
 
-  abbrev a : hall.Answer
-  a = answer ws budget (length before)
+abbrev pub handed : Result Outcome (Refused Refusal) → (best room : List ℕ) → List ℕ
+handed (Ok (walk.Best n cost held equal opened)) best room = written_in (take (n - 0) (drop 0 best)) room
+handed (Ok (walk.None opened)) best room = room
+handed (Ok (walk.Spent opened)) best room = room
+handed (Err e) best room = room
 
-  is : r ≡ outcome a
-  is = outcome_is x
+-- a best plan is of at most 200 devices
+abbrev Few : Result Outcome (Refused Refusal) → Type 0
+Few (Ok (walk.Best n cost held equal opened)) = n ≤ 200
+Few (Ok (walk.None opened)) = ⊤
+Few (Ok (walk.Spent opened)) = ⊤
+Few (Err e) = ⊤
 
-  -- a least plan has place in both rooms
-  places : (cost held opened : ℕ) (p : Plan) → SaysLeast ws budget (length before) cost held opened p → (length p ≤ 200) × (length p ≤ length before)
-  places cost held opened p s =
-      let size = s.plan.sheet.plan.size in
-      let few = s.sheet.ranges.devices in
-      let fits = s.sheet.fits in
-      (omega arith, omega arith)
+-- ── of the outcome of an answer, with its least plan alone ──
+abbrev outcome : hall.Answer → Result Outcome (Refused Refusal)
+outcome a = outcome_of (found_of (λ p. p ∷ []) a)
 
-  module _ {n cost held equal opened : ℕ} (e : r ≡ walk.Best n cost held equal opened) where
-    pub found_few : n ≤ 200
-    found_few = go a is (answered ws budget (length before))
-      where
-        go : (b : hall.Answer) → r ≡ outcome b → Answered ws budget (length before) b → n ≤ 200
-        go (hall.least c k o p) t v = let size : n ≡ length p = cc in omega (arith, (places c k o p v).0)
-        go (hall.none o) t v = absurd (let z : ◌≡◌ {A = ℕ} 0 1 = cc in omega arith)
-        go (hall.spent o) t v = absurd (let z : ◌≡◌ {A = ℕ} 0 1 = cc in omega arith)
-        go (hall.refused f i) t v = absurd (let z : ◌≡◌ {A = ℕ} 0 1 = cc in omega arith)
+given_numbers : (a : hall.Answer) → numbers_of (given (outcome a)) ≡ numbers a
+given_numbers (hall.least c k o p) = refl
+given_numbers (hall.none o) = refl
+given_numbers (hall.spent o) = refl
+given_numbers (hall.refused f i) = rw (fault_kind f) refl
 
-    pub found_least : best ≡ replicate 200 0 → (after : List ℕ) → after ≡ written_in (take (n - 0) (drop 0 best')) before → Finds ws budget before (Least cost held opened) after
-    found_least blank after w = let y = go a is x.room (answered ws budget (length before)) in finds ws budget before (Least cost held opened) after y.0 y.1
-      where
-        long : length best ≡ 200
-        long = ap length blank ∙ length-replicate {A = ℕ} 200 0
+module _ (ws : List ℤ) (budget : ℕ) (before best best' : List ℕ) where
+  few : (a : hall.Answer) → Answered ws budget (length before) a → Few (outcome a)
+  few (hall.least c k o p) v = let size = v.plan.sheet.plan.size in let most = v.sheet.ranges.devices in omega arith
+  few (hall.none o) v = tt
+  few (hall.spent o) v = tt
+  few (hall.refused f i) v = tt
 
-        go : (b : hall.Answer) → r ≡ outcome b → best' ≡ found_room (found_of (λ p. p ∷ []) b) best → Answered ws budget (length before) b → (numbers_of (Least cost held opened) ≡ numbers b) × (after ≡ room_after b before)
-        go (hall.least c k o p) t room v =
-            let size : n ≡ length p = cc in
-            let sum : cost ≡ c = cc in
-            let number : held ≡ k = cc in
-            let count : opened ≡ o = cc in
-            let fits = places c k o p v in
-            let handed : take (n - 0) best' ≡ p = ap (λ (j : ℕ). take (j - 0) best') size ∙ ap (take (length p - 0)) room ∙ in_front_lem p best (omega (arith, long)) in
-            (rw (sum, number, count), w ∙ ap (λ (q : Plan). written_in q before) handed ∙ write_fits p before fits.1)
-        go (hall.none o) t room v = absurd (let z : ◌≡◌ {A = ℕ} 0 1 = cc in omega arith)
-        go (hall.spent o) t room v = absurd (let z : ◌≡◌ {A = ℕ} 0 1 = cc in omega arith)
-        go (hall.refused f i) t room v = absurd (let z : ◌≡◌ {A = ℕ} 0 1 = cc in omega arith)
+  handed_room : length best ≡ 200 → (a : hall.Answer) → best' ≡ found_room (found_of (λ p. p ∷ []) a) best → Answered ws budget (length before) a → handed (outcome a) best' before ≡ room_after a before
+  handed_room long (hall.least c k o p) w v =
+      let most = few (hall.least c k o p) v in
+      let size = v.plan.sheet.plan.size in
+      let fits = v.sheet.fits in
+      ap (λ (q : Plan). written_in q before) (ap (take (length p - 0)) w ∙ in_front_lem p best (omega arith)) ∙ write_fits p before (omega arith)
+  handed_room long (hall.none o) w v = refl
+  handed_room long (hall.spent o) w v = refl
+  handed_room long (hall.refused f i) w v = refl
 
-  pub found_none : {opened : ℕ} → r ≡ walk.None opened → Finds ws budget before (None opened) before
-  found_none {opened} e = let y = go a is in finds ws budget before (None opened) before y.0 y.1
-    where
-      go : (b : hall.Answer) → r ≡ outcome b → (numbers_of (None opened) ≡ numbers b) × (before ≡ room_after b before)
-      go (hall.least c k o p) t = absurd (let z : ◌≡◌ {A = ℕ} 0 1 = cc in omega arith)
-      go (hall.none o) t = let count : opened ≡ o = cc in (rw count, refl)
-      go (hall.spent o) t = absurd (let z : ◌≡◌ {A = ℕ} 0 1 = cc in omega arith)
-      go (hall.refused f i) t = absurd (let z : ◌≡◌ {A = ℕ} 0 1 = cc in omega arith)
+  -- ── of the outcome that was found ──
+  module _ (r : Result Outcome (Refused Refusal)) (x : walks.Finds (best_found ws (length before) budget) best r best') where
+    abbrev a : hall.Answer
+    a = answer ws budget (length before)
 
-  pub found_spent : {opened : ℕ} → r ≡ walk.Spent opened → Finds ws budget before (Spent opened) before
-  found_spent {opened} e = let y = go a is in finds ws budget before (Spent opened) before y.0 y.1
-    where
-      go : (b : hall.Answer) → r ≡ outcome b → (numbers_of (Spent opened) ≡ numbers b) × (before ≡ room_after b before)
-      go (hall.least c k o p) t = absurd (let z : ◌≡◌ {A = ℕ} 0 1 = cc in omega arith)
-      go (hall.none o) t = absurd (let z : ◌≡◌ {A = ℕ} 0 1 = cc in omega arith)
-      go (hall.spent o) t = let count : opened ≡ o = cc in (rw count, refl)
-      go (hall.refused f i) t = absurd (let z : ◌≡◌ {A = ℕ} 0 1 = cc in omega arith)
+    pub found_few : {n cost held equal opened : ℕ} → r ≡ Ok (walk.Best n cost held equal opened) → n ≤ 200
+    found_few e = subst Few (sym (outcome_is x) ∙ e) (few a (answered ws budget (length before)))
 
-  pub found_refused : {kind : Refusal} {place : ℕ} → r ≡ walk.Refused kind place → Finds ws budget before (Refused kind place) before
-  found_refused {kind} {place} e = let y = go a is in finds ws budget before (Refused kind place) before y.0 y.1
-    where
-      go : (b : hall.Answer) → r ≡ outcome b → (numbers_of (Refused kind place) ≡ numbers b) × (before ≡ room_after b before)
-      go (hall.least c k o p) t = absurd (let z : ◌≡◌ {A = ℕ} 0 1 = cc in omega arith)
-      go (hall.none o) t = absurd (let z : ◌≡◌ {A = ℕ} 0 1 = cc in omega arith)
-      go (hall.spent o) t = absurd (let z : ◌≡◌ {A = ℕ} 0 1 = cc in omega arith)
-      go (hall.refused f i) t =
-          let same : kind ≡ kind_of f = cc in
-          let at_place : place ≡ i = cc in
-          (rw (same, at_place, fault_kind f) refl, refl)
+    pub found : best ≡ replicate 200 0 → {s : Result Outcome (Refused Refusal)} → r ≡ s → (after : List ℕ) → after ≡ handed s best' before → Finds ws budget before (given s) after
+    found blank {s} e after room =
+        let is : s ≡ outcome a = sym e ∙ outcome_is x in
+        let long : length best ≡ 200 = ap length blank ∙ length-replicate {A = ℕ} 200 0 in
+        finds ws budget before (given s) after (ap (λ t. numbers_of (given t)) is ∙ given_numbers a) (room ∙ ap (λ t. handed t best' before) is ∙ handed_room long a x.room (answered ws budget (length before)))

@@ -6,30 +6,36 @@
 
 ghost use Rattle.search.specs.Contract.{Finds};
 
-use refusals::Refusal;
+use refusals::{Refusal, Refused};
 use walk::Outcome;
 
-// Cost, devices held and nodes opened; or nodes opened; or the kind of refusal and its place.
-#[derive(Clone, Copy)]
+// The least plan's cost, the devices that it holds and the nodes opened; or nodes opened, where there is no plan or the budget is spent.
+// An enum of its own, as `walk` and `tied` have theirs: what is told of a plan that was found is another in each, and so is its table.
+#[derive(Clone, Copy, PartialEq, Eq)]
 pub enum Answer {
-    Least(u64, u32, u32),
+    Least { cost: u64, held: u32, opened: u32 },
     None(u32),
     Spent(u32),
-    Refused(Refusal, usize),
 }
 
 // The least plan of a sheet, under a budget of trial plans; its marks go to the front of the room.
-pub fn least_plan(words: &[i32], budget: u32, room: &mut [u8]) -> Answer
+pub fn least_plan(words: &[i32], budget: u32, room: &mut [u8]) -> Result<Answer, Refused<Refusal>>
     ensures { Finds words.now budget room.old result room.new }
 {
     let mut best = rooms::plan_room();
-    match walk::best_of(words, room.len(), budget, &mut best) {
-        Outcome::Best(n, cost, held, _, opened) => {
-            plans::write_plan(&best[0..n], room);
-            Answer::Least(cost, held, opened)
+    let found = walk::best_of(words, room.len(), budget, &mut best)?;
+    match found {
+        Outcome::Best {
+            devices,
+            cost,
+            held,
+            opened,
+            ..
+        } => {
+            plans::write_plan(&best[0..devices], room);
+            Ok(Answer::Least { cost, held, opened })
         }
-        Outcome::None(opened) => Answer::None(opened),
-        Outcome::Spent(opened) => Answer::Spent(opened),
-        Outcome::Refused(kind, place) => Answer::Refused(kind, place),
+        Outcome::None(opened) => Ok(Answer::None(opened)),
+        Outcome::Spent(opened) => Ok(Answer::Spent(opened)),
     }
 }

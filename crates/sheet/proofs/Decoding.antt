@@ -1,8 +1,7 @@
 -- The contract of `read`, from the check's answer and from what was written.
 --
--- In order: the numbers of an answer (`numbers_same`); a refused sheet (`read_refused`); an accepted sheet (`GoodSheet`), what stands on
--- it (`accepted_rules`), that the arrays have place for it (`accepted_costs`, `accepted_room`), and what they hold of it (`read_hall`).
--- Assumes nothing.
+-- In order: the numbers of an answer (`numbers_same`, `says_same`); an accepted sheet (`GoodSheet`), what stands on it (`accepted_rules`),
+-- that the arrays have place for it (`accepted_costs`, `accepted_room`), and what they hold of it (`read_hall`). Assumes nothing.
 use mathlib.Core.Path.{◌≡◌, refl, sym, ◌∙◌, ap, subst}
 use mathlib.Core.List.{List, [], ◌∷◌, ◌++◌}
 use Prim.Native.Nat.{ℕ, ◌+◌, ◌≤◌}
@@ -10,6 +9,7 @@ use native.Mathlib.Omega.{arith}
 use lib.ListN.{length, drop, length-append}
 use lib.Seq.{sets}
 use lib.IntN.{ℤ, pos}
+use Rattle.std.specs.Prelude.{Result, Ok}
 use Rattle.hall.specs.Hall.{Hall}
 use Rattle.lists.specs.Lists.{Each}
 use Rattle.hall.specs.Ranges.{RuleInRange, words_of, number_words, rule_words, words, SheetOf}
@@ -20,14 +20,14 @@ use Rattle.hall.proofs.Reading.{past}
 use Rattle.hall.proofs.Reasons.{decoded}
 use Rattle.lists.proofs.InFront.{sets_in_front}
 use Rattle.refusals.specs.declared.Refusal.{Refusal}
+use Rattle.refusals.specs.declared.Refused.{Refused}
 use Rattle.refusals.proofs.Faults.{fault_kind}
 use Rattle.sheet.specs.Coded.{entry_codes, starts_from}
 use Rattle.sheet.specs.Word.{numbers_from}
 use Rattle.sheet.specs.Check.{sheet_of}
 use Rattle.sheet.specs.Placed.{codes_in, starts_in, RulesStand, RulesRoom, RulesPut}
 use Rattle.sheet.specs.Contract.{numbers_of, numbers_read, Holds, ArraysAfter, Decodes}
-use Rattle.sheet.specs.declared.Sheet.{Sheet}
-use Rattle.sheet.specs.declared.Sheet.TheVariants as sheet
+use Rattle.sheet.specs.declared.Size.{Size}
 use Rattle.sheet.proofs.Standing.{costs_stand, codes_stand, starts_stand, codes_length, starts_length, few_entries}
 
 -- ── the numbers of an answer ──
@@ -35,36 +35,28 @@ numbers_same : (x : Read Hall) → numbers_of (sheet_of x) ≡ numbers_read x
 numbers_same (bad f i) = rw (fault_kind f)
 numbers_same (got h j) = refl
 
--- ── a refused sheet ──
-module _ (ws : List ℤ) (room : ℕ) (s : Sheet) (e : s ≡ sheet_of (decode room ws)) where
-  says_same : (r : Sheet) → s ≡ r → numbers_of r ≡ numbers_read (decode room ws)
-  says_same r u = ap numbers_of (sym u ∙ e) ∙ numbers_same (decode room ws)
-
-  pub read_refused : (kind : Refusal) (place : ℕ) (costs codes starts : List ℕ) → s ≡ sheet.Refused kind place → Decodes ws room costs codes starts (sheet.Refused kind place) costs codes starts
-  read_refused kind place costs codes starts u = record { says = says_same (sheet.Refused kind place) u; arrays = go (decode room ws) (sym e ∙ u) }
-    where
-      go : (x : Read Hall) → sheet_of x ≡ sheet.Refused kind place → ArraysAfter x costs codes starts costs codes starts
-      go (bad f i) e = record { costs_kept = refl; codes_kept = refl; starts_kept = refl }
-      go (got h j) e = absurd (let z : ◌≡◌ {A = ℕ} 0 1 = cc in omega arith)
+module _ (ws : List ℤ) (room : ℕ) where
+  says_same : (r : Result Size (Refused Refusal)) → r ≡ sheet_of (decode room ws) → numbers_of r ≡ numbers_read (decode room ws)
+  says_same r e = ap numbers_of e ∙ numbers_same (decode room ws)
 
   -- ── an accepted sheet ──
-  record GoodSheet (n m : ℕ) : Type 0 where
+  record GoodSheet (s : Size) : Type 0 where
     whole : Hall
     place : ℕ
     is : decode room ws ≡ got whole place
-    devices : length whole.costs ≡ n
-    count : length whole.rules ≡ m
+    devices : length whole.costs ≡ s.devices
+    count : length whole.rules ≡ s.rules
     sheet_of_lem : SheetOf whole ws room
 
-  good_sheet : (n m : ℕ) → s ≡ sheet.Hall n m → GoodSheet n m
-  good_sheet n m u = go (decode room ws) refl (sym e ∙ u)
+  good_sheet : (s : Size) → Ok s ≡ sheet_of (decode room ws) → GoodSheet s
+  good_sheet s e = go (decode room ws) refl e
     where
-      go : (x : Read Hall) → decode room ws ≡ x → sheet_of x ≡ sheet.Hall n m → GoodSheet n m
-      go (bad f i) d e = absurd (let z : ◌≡◌ {A = ℕ} 0 1 = cc in omega arith)
+      go : (x : Read Hall) → decode room ws ≡ x → Ok s ≡ sheet_of x → GoodSheet s
+      go (bad f i) d e = cc
       go (got h j) d e = record { whole = h; place = j; is = d; devices = cc; count = cc; sheet_of_lem = decoded ws room h j d }
 
-  accepted_few : (n m : ℕ) → s ≡ sheet.Hall n m → n ≤ 200
-  accepted_few n m u = let a = good_sheet n m u in let d = a.devices in let r = a.sheet_of_lem.ranges.devices in omega arith
+  accepted_few : (s : Size) → Ok s ≡ sheet_of (decode room ws) → s.devices ≤ 200
+  accepted_few s e = let a = good_sheet s e in let d = a.devices in let r = a.sheet_of_lem.ranges.devices in omega arith
 
 -- the words of a hall, part by part
 record Parts (ws : List ℤ) (h : Hall) : Type 0 where
@@ -84,10 +76,10 @@ parts ws h e =
     let place : 1 + length cs + 1 ≡ length h.costs + 2 = omega arith in
     record { costs_here = a; rules_here = subst (λ (k : ℕ). drop k ws ≡ rs) place c; enough = omega (arith, ap length e, length-append cs (pos (length h.rules) ∷ rs)) }
 
-module _ (ws : List ℤ) (room : ℕ) (s : Sheet) (e : s ≡ sheet_of (decode room ws)) (n m : ℕ) (u : s ≡ sheet.Hall n m) where
-  pub accepted_rules : RulesStand n ws (n + 2) m
+module _ (ws : List ℤ) (room : ℕ) (s : Size) (e : Ok s ≡ sheet_of (decode room ws)) where
+  pub accepted_rules : RulesStand s.devices ws (s.devices + 2) s.rules
   accepted_rules =
-      let a = good_sheet ws room s e n m u in
+      let a = good_sheet ws room s e in
       let d = a.devices in
       let o = a.sheet_of_lem in
       let p = parts ws a.whole o.sheet in
@@ -96,28 +88,28 @@ module _ (ws : List ℤ) (room : ℕ) (s : Sheet) (e : s ≡ sheet_of (decode ro
         sheet = subst (λ (k : ℕ). drop (k + 2) ws ≡ words_of rule_words a.whole.rules) d p.rules_here;
         number = a.count;
         good = subst (λ (k : ℕ). Each (RuleInRange k) a.whole.rules) d o.ranges.good;
-        devices = accepted_few ws room s e n m u;
+        devices = accepted_few ws room s e;
         count = let c = a.count in let r = o.ranges.count in omega arith;
         short = o.short;
         inside = let q = p.enough in omega arith;
       }
 
   -- the arrays have place for it
-  pub accepted_costs : (costs : List ℕ) → length costs ≡ 200 → n ≤ length costs
-  accepted_costs costs l = omega (arith, accepted_few ws room s e n m u)
+  pub accepted_costs : (costs : List ℕ) → length costs ≡ 200 → s.devices ≤ length costs
+  accepted_costs costs l = omega (arith, accepted_few ws room s e)
 
-  pub accepted_room : (codes starts : List ℕ) → length codes ≡ 16384 → length starts ≡ 2001 → RulesRoom ws m codes starts
+  pub accepted_room : (codes starts : List ℕ) → length codes ≡ 16384 → length starts ≡ 2001 → RulesRoom ws s.rules codes starts
   accepted_room codes starts lk ls =
       let short = accepted_rules.short in
       let count = accepted_rules.count in
       record { codes_room = omega arith; starts_room = omega arith }
 
   -- ── what the arrays hold ──
-  pub read_hall : (costs codes starts costs' codes' starts' : List ℕ) → length costs ≡ 200 → length codes ≡ 16384 → length starts ≡ 2001 → costs' ≡ sets costs 0 (numbers_from ws 1 n) → RulesPut n ws (n + 2) m codes starts codes' starts' → Decodes ws room costs codes starts (sheet.Hall n m) costs' codes' starts'
-  read_hall costs codes starts costs' codes' starts' lc lk ls put q = record { says = says_same ws room s e (sheet.Hall n m) u; arrays = subst (λ (x : Read Hall). ArraysAfter x costs codes starts costs' codes' starts') (sym a.is) holds }
+  pub read_hall : (costs codes starts costs' codes' starts' : List ℕ) → length costs ≡ 200 → length codes ≡ 16384 → length starts ≡ 2001 → costs' ≡ sets costs 0 (numbers_from ws 1 s.devices) → RulesPut s.devices ws (s.devices + 2) s.rules codes starts codes' starts' → Decodes ws room costs codes starts (Ok s) costs' codes' starts'
+  read_hall costs codes starts costs' codes' starts' lc lk ls put q = record { says = says_same ws room (Ok s) e; arrays = subst (λ (x : Read Hall). ArraysAfter x costs codes starts costs' codes' starts') (sym a.is) holds }
     where
-      a : GoodSheet ws room s e n m
-      a = good_sheet ws room s e n m u
+      a : GoodSheet ws room s
+      a = good_sheet ws room s e
 
       h : Hall
       h = a.whole
@@ -125,23 +117,23 @@ module _ (ws : List ℤ) (room : ℕ) (s : Sheet) (e : s ≡ sheet_of (decode ro
       p : Parts ws h
       p = parts ws h a.sheet_of_lem.sheet
 
-      place : n + 2 ≡ length h.costs + 2
+      place : s.devices + 2 ≡ length h.costs + 2
       place = ap (λ (k : ℕ). k + 2) (sym a.devices)
 
-      here : drop (n + 2) ws ≡ words_of rule_words h.rules
+      here : drop (s.devices + 2) ws ≡ words_of rule_words h.rules
       here = ap (λ (k : ℕ). drop k ws) place ∙ p.rules_here
 
-      costs_are : numbers_from ws 1 n ≡ h.costs
+      costs_are : numbers_from ws 1 s.devices ≡ h.costs
       costs_are = ap (numbers_from ws 1) (sym a.devices) ∙ costs_stand ws 1 h.costs _ p.costs_here
 
-      good : Each (RuleInRange n) h.rules
+      good : Each (RuleInRange s.devices) h.rules
       good = subst (λ (k : ℕ). Each (RuleInRange k) h.rules) a.devices a.sheet_of_lem.ranges.good
 
-      codes_are : codes_in n ws (n + 2) m ≡ entry_codes (entries h.rules)
-      codes_are = ap (codes_in n ws (n + 2)) (sym a.count) ∙ codes_stand n ws (n + 2) h.rules good here
+      codes_are : codes_in s.devices ws (s.devices + 2) s.rules ≡ entry_codes (entries h.rules)
+      codes_are = ap (codes_in s.devices ws (s.devices + 2)) (sym a.count) ∙ codes_stand s.devices ws (s.devices + 2) h.rules good here
 
-      starts_are : starts_in ws (n + 2) 0 m ≡ starts_from 0 h.rules
-      starts_are = ap (starts_in ws (n + 2) 0) (sym a.count) ∙ starts_stand ws (n + 2) 0 h.rules here
+      starts_are : starts_in ws (s.devices + 2) 0 s.rules ≡ starts_from 0 h.rules
+      starts_are = ap (starts_in ws (s.devices + 2) 0) (sym a.count) ∙ starts_stand ws (s.devices + 2) 0 h.rules here
 
       holds : Holds h costs codes starts costs' codes' starts'
       holds =

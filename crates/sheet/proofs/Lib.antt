@@ -1,7 +1,6 @@
 -- Laws, in the order in which the functions need them; then what the contract of `read` gives.
 pub mod Items
 pub mod Runs
-pub mod Counts
 pub mod Whole
 pub mod Placing
 pub mod Standing

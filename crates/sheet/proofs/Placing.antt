@@ -1,11 +1,11 @@
 -- Writing into the arrays: while something is left to write, writing it leaves what writing the whole leaves.
 --
--- In order: a run of values (`run_length`, `run_more`, `run_end`); rules, their codes and their starts (`codes_more`, `starts_more`,
+-- In order: a run of values (`run_length`, `run_step`, `run_none`); rules, their codes and their starts (`codes_more`, `starts_more`,
 -- `starts_end`, `codes_end`). Assumes nothing.
 use mathlib.Core.Path.{◌≡◌, refl, sym, ◌∙◌, ap}
 use mathlib.Core.List.{List, ◌∷◌, ◌++◌}
-use Prim.Native.Nat.{ℕ, zero, suc, ◌+◌, ◌-◌}
-use native.Mathlib.Numerals.{sub-one}
+use Prim.Native.Nat.{ℕ, zero, suc, ◌+◌, ◌-◌, ◌<◌}
+use native.Mathlib.Numerals.{sub-one, add-one}
 use native.Mathlib.Omega.{arith}
 use lib.ListN.{length, set}
 use lib.Seq.{sets}
@@ -20,20 +20,16 @@ unfolding run
 run_length f at zero = refl
 run_length f at (suc left) = ap suc (run_length f (at + 1) left)
 
-one_more_lem : (f : ℕ → ℕ) (at left : ℕ) → (left ≡ 0 → ⊥) → run f at left ≡ f at ∷ run f (at + 1) (left - 1)
+pub run_step : (array : List ℕ) (k : ℕ) (f : ℕ → ℕ) (at left : ℕ) → 0 < left → sets array k (run f at left) ≡ sets (set array k (f at)) (k + 1) (run f (at + 1) (left - 1))
 unfolding run
-one_more_lem f at zero n = absurd (n refl)
-one_more_lem f at (suc left) n = rw sub-one
+run_step array k f at zero more = absurd (omega arith)
+run_step array k f at (suc left) more = rw (sub-one, add-one k)
 
-module _ (f : ℕ → ℕ) (array : List ℕ) (k at left : ℕ) (whole : List ℕ) (inv : sets array k (run f at left) ≡ whole) where
-  pub run_more : (v k' at' left' : ℕ) → (left ≡ 0 → ⊥) → v ≡ f at → k' ≡ k + 1 → at' ≡ at + 1 → left' ≡ left - 1 → sets (set array k v) k' (run f at' left') ≡ whole
-  run_more v k' at' left' n e a b c =
-      let s : k' ≡ suc k = omega arith in
-      rw (e, s, b, c) (sym (ap (sets array k) (one_more_lem f at left n)) ∙ inv)
+pub run_none : (array : List ℕ) (k : ℕ) (f : ℕ → ℕ) (at left : ℕ) → left ≡ 0 → sets array k (run f at left) ≡ array
+unfolding run
+run_none array k f at left e = rw e
 
-  pub run_end : left ≡ 0 → array ≡ whole
-  unfolding run
-  run_end e = rw e at inv
+pub ruleset run_laws = (run_step, run_none)
 
 -- ── rules ──
 codes_one : (n : ℕ) (ws : List ℤ) (at left : ℕ) → (left ≡ 0 → ⊥) → codes_in n ws at left ≡ codes_from n ws (at + 1) (value_at ws at) ++ codes_in n ws (at + 1 + value_at ws at) (left - 1)

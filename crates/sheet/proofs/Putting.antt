@@ -1,14 +1,12 @@
 -- Writing the rules, rule by rule.
 --
--- In order: what holds before each rule (`Putting`), from the first on (`putting_start`); a start fits its array's type (`putting_small`); the
--- arrays are as long as they were, with a start more too (`codes_long`, `start_put`); a start and the rule at hand have room
--- (`start_room`, `putting_room`); over it to the next (`putting_more`); the end (`putting_end`). Assumes nothing.
+-- In order: what holds before each rule (`Putting`); a start fits its array's type (`putting_small`); the rule at hand has room
+-- (`putting_room`); over it to the next (`putting_more`); the end (`putting_end`). Assumes nothing.
 use mathlib.Core.Path.{◌≡◌, ◌∙◌, ap, subst}
 use mathlib.Core.List.{List}
 use Prim.Native.Nat.{ℕ, ◌+◌, ◌-◌, ◌≤◌, ◌<◌}
-use native.Mathlib.Nat.{sub-zero}
 use native.Mathlib.Omega.{arith}
-use lib.ListN.{length, set, length-set}
+use lib.ListN.{length, set}
 use lib.Seq.{sets}
 use lib.IntN.{ℤ}
 use Rattle.lists.proofs.InFront.{sets_as_long}
@@ -25,12 +23,6 @@ pub record Putting (n : ℕ) (ws : List ℤ) (m : ℕ) (codes₀ starts₀ codes
   pub codes_left : sets codes first (codes_in n ws place (m - r)) ≡ sets codes₀ 0 (codes_in n ws (n + 2) m)
   pub starts_left : sets starts r (starts_in ws place first (m - r)) ≡ sets starts₀ 0 (starts_in ws (n + 2) 0 m)
 
-pub putting_start : (n : ℕ) (ws : List ℤ) (m : ℕ) (codes starts : List ℕ) → RulesStand n ws (n + 2) m → Putting n ws m codes starts codes starts (n + 2) 0 0
-putting_start n ws m codes starts s = rw_left (sub-zero m)
-  where
-    rw_left : m - 0 ≡ m → Putting n ws m codes starts codes starts (n + 2) 0 0
-    rw_left e = record { stands = rw e s; near = omega arith; within = omega arith; codes_left = rw e; starts_left = rw e }
-
 module _ {n : ℕ} {ws : List ℤ} {m : ℕ} {codes₀ starts₀ codes starts : List ℕ} {place first r : ℕ} (p : Putting n ws m codes₀ starts₀ codes starts place first r) where
   pub putting_small : first ≤ 16384
   putting_small =
@@ -42,18 +34,9 @@ module _ {n : ℕ} {ws : List ℤ} {m : ℕ} {codes₀ starts₀ codes starts : 
   next : r < m → NextRule n ws place (m - r)
   next l = next_rule n ws place (m - r) p.stands (λ (z : m - r ≡ 0). omega arith)
 
-  -- what is left to write shows how long the arrays are
-  pub codes_long : length codes ≡ length codes₀
+  -- what is left to write shows how long the array is
+  codes_long : length codes ≡ length codes₀
   codes_long = sets_as_long codes codes₀ first 0 (codes_in n ws place (m - r)) (codes_in n ws (n + 2) m) p.codes_left
-
-  starts_long : length starts ≡ length starts₀
-  starts_long = sets_as_long starts starts₀ r 0 (starts_in ws place first (m - r)) (starts_in ws (n + 2) 0 m) p.starts_left
-
-  pub start_put : (i v : ℕ) → length (set starts i v) ≡ length starts₀
-  start_put i v = length-set starts i v ∙ starts_long
-
-  pub start_room : RulesRoom ws m codes₀ starts₀ → (i : ℕ) → i ≤ m → i < length starts
-  start_room q i l = let places = q.starts_room in omega (arith, starts_long)
 
   pub putting_room : RulesRoom ws m codes₀ starts₀ → r < m → (w : ℕ) → w ≡ value_at ws place → CodesRoom (place + 1) w n first codes
   putting_room q l w e =

@@ -1,27 +1,28 @@
--- The whole check: each way in which it ends is the decoder's.
+-- What is told of the whole sheet, by what is told of its parts.
 --
--- In order: how many a run gives (`times_length`); the hall's reader refuses, or gives a hall (`hall_bad`, `whole_read`); the check's
--- returns, in the order of the code (`long_sheet` .. `good_sheet`). Assumes nothing.
-use mathlib.Core.Path.{◌≡◌, sym, ◌∙◌, ap}
+-- In order: how many a run gives (`times_length`); the end of a sheet whose hall is read (`end_told`, by `words_behind`, `small_room_lem`,
+-- `good_sheet`); a sheet that is too long (`long_sheet`), and the parts of another (`sheet_parts`). Each law has on its left what the
+-- goals have, so that check.rt need but name the set of laws. Assumes nothing.
+use mathlib.Core.Path.{◌≡◌, refl, ap, ◌∙◌}
+use mathlib.Core.Bool.{Bool, true, false}
 use mathlib.Core.List.{List, [], ◌∷◌}
+use mathlib.Core.Option.{Option, none, some}
 use Prim.Native.Nat.{ℕ, zero, suc, ◌+◌, ◌-◌, ◌≤◌, ◌<◌}
-use native.Mathlib.Omega.{arith}
-use lib.ListN.{length}
+use native.Mathlib.Numerals.{add-one}
+use lib.ListN.{length, get_elem?}
 use lib.IntN.{ℤ}
+use lib.Dec.{ltb}
 use borrow.Author.Tests.{lt-ltb, le-ltb}
+use Rattle.std.specs.Prelude.{Result, Ok, Err}
 use Rattle.hall.specs.Hall.{Hall}
-use Rattle.hall.specs.Reading.{Fault, bad_device_count, bad_rule_count, Read, bad, got, Reader, then, ◌>>=◌, yield, word, up_to, times, cost, rule, all_rules, hall, ended, has_room, decode_by, decode}
-use Rattle.hall.proofs.Reading.{reads, reads_on}
-use Rattle.refusals.specs.Contract.{kind_of}
+use Rattle.hall.specs.Reading.{Fault, bad_device_count, bad_rule_count, Read, bad, got, Reader, then, ◌>>=◌, yield, as_read, at_word, word, up_to, times, cost, rule, all_rules, hall, ended_by, ended, room_by, has_room, decode_by, decode}
+use Rattle.hall.proofs.Reading.{reads}
 use Rattle.refusals.specs.declared.Refusal.{Refusal}
 use Rattle.refusals.specs.declared.Refusal.TheVariants.{ExtraWords, SmallRoom, TooLong}
+use Rattle.refusals.specs.declared.Refused.{Refused}
 use Rattle.sheet.specs.Check.{count_of, step_of, sheet_of}
-use Rattle.sheet.specs.declared.Sheet.TheVariants as sheet
-use Rattle.sheet.specs.declared.check.Count.{Count}
-use Rattle.sheet.specs.declared.check.Count.TheVariants as count
-use Rattle.sheet.specs.declared.check.Step.{Step}
-use Rattle.sheet.specs.declared.check.Step.TheVariants as step
-use Rattle.sheet.proofs.Counts.{count_bad, count_got, step_refuses, NextAt, step_gives}
+use Rattle.sheet.specs.declared.Size.{Size}
+use Rattle.sheet.proofs.Runs.{go_on}
 
 times_length : {A : Type 0} (k : ℕ) (r : ℕ → Reader A) (ws : List ℤ) (i : ℕ) (l : List A) (j : ℕ) → times k r ws i ≡ got l j → length l ≡ k
 unfolding times
@@ -33,94 +34,80 @@ times_length (suc k) r ws i l j e =
     let z : x.value ∷ y.value ≡ l = cc in
     rw (← z) (ap suc (times_length k r ws x.place y.value y.place y.one))
 
--- a refusal goes through whatever is read after it
-bad_then : {A B : Type 0} (r : Reader A) (s : A → Reader B) (ws : List ℤ) (i : ℕ) {f : Fault} {p : ℕ} → r ws i ≡ bad f p → ◌>>=◌ r s ws i ≡ bad f p
-bad_then {A} r s ws i e = ap (λ (x : Read A). then x s ws) e
+-- ── the end of the sheet, and the plan room ──
+abbrev room_told : Bool → (n m : ℕ) → Result Size (Refused Refusal)
+room_told true n m = Err (record { kind = SmallRoom; place = n })
+room_told false n m = Ok (record { devices = n; rules = m })
 
-pub long_sheet : (room : ℕ) (ws : List ℤ) → 16384 < length ws → sheet.Refused TooLong 16384 ≡ sheet_of (decode room ws)
+abbrev behind_told : Bool → (end : ℕ) → Result Size (Refused Refusal) → Result Size (Refused Refusal)
+behind_told true end fits = Err (record { kind = ExtraWords; place = end })
+behind_told false end fits = fits
+
+-- what is told of a hall of n devices and m rules that ends before a place of a sheet of so many words
+unfoldable pub end_told : (room n m end long : ℕ) → Result Size (Refused Refusal)
+end_told room n m end long = behind_told (ltb end long) end (room_told (ltb room n) n m)
+
+pub words_behind : (room n m end long : ℕ) → end < long → end_told room n m end long ≡ Err (record { kind = ExtraWords; place = end })
+unfolding end_told
+words_behind room n m end long l = rw (lt-ltb end long l)
+
+pub small_room_lem : (room n m end long : ℕ) → long ≤ end → room < n → end_told room n m end long ≡ Err (record { kind = SmallRoom; place = n })
+unfolding end_told
+small_room_lem room n m end long l k = rw (le-ltb end long l, lt-ltb room n k)
+
+pub good_sheet : (room n m end long : ℕ) → long ≤ end → n ≤ room → end_told room n m end long ≡ Ok (record { devices = n; rules = m })
+unfolding end_told
+good_sheet room n m end long l k = rw (le-ltb end long l, le-ltb room n k)
+
+-- ── the whole ──
+pub long_sheet : (room : ℕ) (ws : List ℤ) → 16384 < length ws → sheet_of (decode room ws) ≡ Err (record { kind = TooLong; place = 16384 })
 unfolding decode decode_by
 long_sheet room ws l = rw (lt-ltb 16384 (length ws) l)
 
-module _ (room : ℕ) (ws : List ℤ) (short : length ws ≤ 16384) where
-  -- ── the hall's reader ──
-  hall_bad : (f : Fault) (p : ℕ) (kind : Refusal) → kind ≡ kind_of f → hall ws 0 ≡ bad f p → sheet.Refused kind p ≡ sheet_of (decode room ws)
-  unfolding decode decode_by
-  hall_bad f p kind k e = rw (k, le-ltb 16384 (length ws) short) (sym (ap sheet_of (bad_then (hall >>= ended) (has_room room) ws 0 (bad_then hall ended ws 0 e))))
+module _ (room : ℕ) (ws : List ℤ) where
+  -- what is told of a sheet, by what its hall's reader gives
+  ends : Read Hall → Result Size (Refused Refusal)
+  ends x = sheet_of (then (then x ended ws) (has_room room) ws)
 
-  -- ── the check's returns ──
-  module _ (c₁ : Count) (e₁ : c₁ ≡ count_of (word bad_device_count (up_to 200) ws 0)) where
-    pub devices_bad : (kind : Refusal) (place : ℕ) → c₁ ≡ count.Bad kind place → sheet.Refused kind place ≡ sheet_of (decode room ws)
-    unfolding hall
-    devices_bad kind place u =
-        let b = count_bad (word bad_device_count (up_to 200) ws 0) c₁ kind place e₁ u in
-        hall_bad b.fault place kind b.same (bad_then (word bad_device_count (up_to 200)) _ ws 0 b.is)
+  ends_told : (h : Hall) (end : ℕ) → ends (got h end) ≡ end_told room (length h.costs) (length h.rules) end (length ws)
+  unfolding ends end_told
+  ends_told h end = go (ltb end (length ws))
+    where
+      by : (b : Bool) → sheet_of (room_by b h ws end) ≡ room_told b (length h.costs) (length h.rules)
+      by true = refl
+      by false = refl
 
-    module _ (n : ℕ) (u₁ : c₁ ≡ count.Is n) (s₁ : Step) (e₂ : s₁ ≡ step_of (times n (λ left. cost) ws 1)) where
-      devices : word bad_device_count (up_to 200) ws 0 ≡ got n 1
-      devices = (count_got bad_device_count ws 0 200 c₁ n e₁ u₁).is
+      go : (a : Bool) → sheet_of (then (ended_by a h ws end) (has_room room) ws) ≡ behind_told a end (room_told (ltb room (length h.costs)) (length h.costs) (length h.rules))
+      go true = refl
+      go false = by (ltb room (length h.costs))
 
-      pub costs_bad : (kind : Refusal) (place : ℕ) → s₁ ≡ step.Bad kind place → sheet.Refused kind place ≡ sheet_of (decode room ws)
-      unfolding hall
-      costs_bad kind place u =
-          let b = step_refuses (times n (λ left. cost) ws 1) s₁ kind place e₂ u in
-          hall_bad b.fault place kind b.same (reads_on (word bad_device_count (up_to 200)) _ ws 0 devices ∙ bad_then (times n (λ left. cost)) _ ws 1 b.is)
+  -- a count, and a run, and what is told of the sheet behind it
+  count_first : (f : Fault) (most i : ℕ) (k : ℕ → Reader Hall) (rest : ℕ → Result Size (Refused Refusal)) → ((n : ℕ) → ends (k n ws (i + 1)) ≡ rest n)
+      → ends (then (word f (up_to most) ws i) k ws) ≡ go_on (count_of (word f (up_to most) ws i)) rest
+  unfolding ends
+  count_first f most i k rest h = go (get_elem? ws i)
+    where
+      by : (x : Option ℕ) → ends (then (as_read f i x) k ws) ≡ go_on (count_of (as_read f i x)) rest
+      by none = refl
+      by (some n) = rw (← add-one i) (h n)
 
-      module _ (behind : ℕ) (u₂ : s₁ ≡ step.Next behind) (c₂ : Count) (e₃ : c₂ ≡ count_of (word bad_rule_count (up_to 2000) ws behind)) where
-        costs : NextAt (times n (λ left. cost) ws 1) behind
-        costs = step_gives (times n (λ left. cost) ws 1) s₁ behind e₂ u₂
+      go : (o : Option ℤ) → ends (then (at_word f (up_to most) ws i o) k ws) ≡ go_on (count_of (at_word f (up_to most) ws i o)) rest
+      go none = refl
+      go (some w) = by (up_to most w)
 
-        pub count_bad_too : (kind : Refusal) (place : ℕ) → c₂ ≡ count.Bad kind place → sheet.Refused kind place ≡ sheet_of (decode room ws)
-        unfolding hall
-        count_bad_too kind place u =
-            let b = count_bad (word bad_rule_count (up_to 2000) ws behind) c₂ kind place e₃ u in
-            hall_bad b.fault place kind b.same
-            (reads_on (word bad_device_count (up_to 200)) _ ws 0 devices ∙ reads_on (times n (λ left. cost)) _ ws 1 costs.is ∙ bad_then (word bad_rule_count (up_to 2000)) _ ws behind b.is)
+  run_first : {A : Type 0} (x : Read A) (k : A → Reader Hall) (rest : ℕ → Result Size (Refused Refusal)) → ((a : A) (j : ℕ) → x ≡ got a j → ends (k a ws j) ≡ rest j)
+      → ends (then x k ws) ≡ go_on (step_of x) rest
+  unfolding ends
+  run_first (bad f i) k rest h = refl
+  run_first (got a j) k rest h = h a j refl
 
-        module _ (m : ℕ) (u₃ : c₂ ≡ count.Is m) (s₂ : Step) (e₄ : s₂ ≡ step_of (all_rules n m ws (behind + 1))) where
-          rule_count_lem : word bad_rule_count (up_to 2000) ws behind ≡ got m (behind + 1)
-          rule_count_lem = (count_got bad_rule_count ws behind 2000 c₂ m e₃ u₃).is
+  pub sheet_parts : length ws ≤ 16384 → sheet_of (decode room ws)
+      ≡ go_on (count_of (word bad_device_count (up_to 200) ws 0)) (λ n. go_on (step_of (times n (λ left. cost) ws 1)) (λ behind.
+      go_on (count_of (word bad_rule_count (up_to 2000) ws behind)) (λ m. go_on (step_of (all_rules n m ws (behind + 1))) (λ end. end_told room n m end (length ws)))))
+  unfolding decode decode_by hall ends all_rules
+  sheet_parts l = rw (le-ltb 16384 (length ws) l)
+      (count_first bad_device_count 200 0 _ _ (λ n. run_first (times n (λ left. cost) ws 1) _ _ (λ costs behind is.
+      count_first bad_rule_count 2000 behind _ _ (λ m. run_first (times m (λ left. rule n (m - left)) ws (behind + 1)) _ _ (λ rules end is'.
+      ends_told (record { costs = costs; rules = rules }) end ∙ rw (times_length n (λ left. cost) ws 1 costs behind is, times_length m (λ left. rule n (m - left)) ws (behind + 1) rules end is'))))))
 
-          pub rules_refused : (kind : Refusal) (place : ℕ) → s₂ ≡ step.Bad kind place → sheet.Refused kind place ≡ sheet_of (decode room ws)
-          unfolding hall
-          rules_refused kind place u =
-              let b = step_refuses (all_rules n m ws (behind + 1)) s₂ kind place e₄ u in
-              hall_bad b.fault place kind b.same
-              (reads_on (word bad_device_count (up_to 200)) _ ws 0 devices ∙ reads_on (times n (λ left. cost)) _ ws 1 costs.is ∙ reads_on (word bad_rule_count (up_to 2000)) _ ws behind rule_count_lem
-              ∙ bad_then (all_rules n m) _ ws (behind + 1) b.is)
-
-          module _ (end : ℕ) (u₄ : s₂ ≡ step.Next end) where
-            rules : NextAt (all_rules n m ws (behind + 1)) end
-            rules = step_gives (all_rules n m ws (behind + 1)) s₂ end e₄ u₄
-
-            whole : Hall
-            whole = record { costs = costs.value; rules = rules.value }
-
-            whole_read : hall ws 0 ≡ got whole end
-            unfolding hall whole
-            whole_read =
-                reads_on (word bad_device_count (up_to 200)) _ ws 0 devices ∙ reads_on (times n (λ left. cost)) _ ws 1 costs.is ∙ reads_on (word bad_rule_count (up_to 2000)) _ ws behind rule_count_lem
-                ∙ reads_on (all_rules n m) _ ws (behind + 1) rules.is
-
-            costs_count : length whole.costs ≡ n
-            unfolding whole
-            costs_count = times_length n (λ left. cost) ws 1 costs.value behind costs.is
-
-            rules_count : length whole.rules ≡ m
-            unfolding whole all_rules
-            rules_count = times_length m (λ left. rule n (m - left)) ws (behind + 1) rules.value end rules.is
-
-            pub words_behind : end < length ws → sheet.Refused ExtraWords end ≡ sheet_of (decode room ws)
-            unfolding decode decode_by
-            words_behind l = rw (le-ltb 16384 (length ws) short, whole_read, lt-ltb end (length ws) l)
-
-            pub small_room_lem : length ws ≤ end → room < n → sheet.Refused SmallRoom n ≡ sheet_of (decode room ws)
-            unfolding decode decode_by
-            small_room_lem l k =
-                let small : room < length whole.costs = omega (arith, costs_count) in
-                rw (le-ltb 16384 (length ws) short, whole_read, le-ltb end (length ws) l, lt-ltb room (length whole.costs) small, costs_count)
-
-            pub good_sheet : length ws ≤ end → n ≤ room → sheet.Hall n m ≡ sheet_of (decode room ws)
-            unfolding decode decode_by
-            good_sheet l k =
-                let fits : length whole.costs ≤ room = omega (arith, costs_count) in
-                rw (le-ltb 16384 (length ws) short, whole_read, le-ltb end (length ws) l, le-ltb room (length whole.costs) fits, costs_count, rules_count)
+pub ruleset sheet_laws = (long_sheet, sheet_parts, words_behind, small_room_lem, good_sheet)

@@ -1,25 +1,30 @@
 -- What the check's parts say of the decoder's readings.
 --
--- In order: a count, a part of the sheet, the whole. Definitions only.
-use Rattle.std.specs.Prelude.{ℕ, length}
-use Rattle.hall.specs.Hall.{Hall}
+-- In order: what is told of any reading (`told`); a count, an entry, a part of the sheet, the whole. Definitions only.
+use Rattle.std.specs.Prelude.{ℕ, length, Result, Ok, Err}
+use Rattle.hall.specs.Hall.{Entry, Hall}
 use Rattle.hall.specs.Reading.{Read, bad, got}
 use Rattle.refusals.specs.Contract.{kind_of}
-use Rattle.sheet.specs.declared.Sheet.{Sheet}
-use Rattle.sheet.specs.declared.Sheet.TheVariants as sheet
-use Rattle.sheet.specs.declared.check.Count.{Count}
-use Rattle.sheet.specs.declared.check.Count.TheVariants as count
-use Rattle.sheet.specs.declared.check.Step.{Step}
-use Rattle.sheet.specs.declared.check.Step.TheVariants as step
+use Rattle.refusals.specs.declared.Refusal.{Refusal}
+use Rattle.refusals.specs.declared.Refused.{Refused}
+use Rattle.sheet.specs.Coded.{entry_code}
+use Rattle.sheet.specs.declared.Size.{Size}
 
-abbrev pub count_of : Read ℕ → Count
-count_of (bad f i) = count.Bad (kind_of f) i
-count_of (got n j) = count.Is n
+-- the refusal, or what is told of the value and the next word's place
+abbrev pub told : {A B : Type 0} → (A → (next : ℕ) → B) → Read A → Result B (Refused Refusal)
+told tell (bad f i) = Err (record { kind = kind_of f; place = i })
+told tell (got a j) = Ok (tell a j)
 
-abbrev pub step_of : {A : Type 0} → Read A → Step
-step_of (bad f i) = step.Bad (kind_of f) i
-step_of (got a j) = step.Next j
+abbrev pub count_of : Read ℕ → Result ℕ (Refused Refusal)
+count_of = told (λ n next. n)
 
-abbrev pub sheet_of : Read Hall → Sheet
-sheet_of (bad f i) = sheet.Refused (kind_of f) i
-sheet_of (got h j) = sheet.Hall (length h.costs) (length h.rules)
+-- the code of an entry
+abbrev pub code_of : Read Entry → Result ℕ (Refused Refusal)
+code_of = told (λ e next. entry_code e)
+
+-- the next word's place
+abbrev pub step_of : {A : Type 0} → Read A → Result ℕ (Refused Refusal)
+step_of = told (λ a next. next)
+
+abbrev pub sheet_of : Read Hall → Result Size (Refused Refusal)
+sheet_of = told (λ h next. record { devices = length h.costs; rules = length h.rules })

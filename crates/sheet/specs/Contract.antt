@@ -1,20 +1,21 @@
 -- The contract of `read`: this paper's numbers for each case, and the lent arrays afterwards.
 --
 -- In order: the numbers of an answer and of a decoding; what the arrays hold; the contract. Definitions only.
-use Rattle.std.specs.Prelude.{◌≡◌, List, [], ◌∷◌, ℕ, length, ℤ}
+use Rattle.std.specs.Prelude.{◌≡◌, List, [], ◌∷◌, ℕ, length, ℤ, Result, Ok, Err}
 use Rattle.lists.specs.Lists.{in_front}
 use Rattle.hall.specs.Hall.{Hall}
 use Rattle.hall.specs.Bound.{entries}
 use Rattle.hall.specs.Reading.{refusal_numbers, Read, bad, got, decode}
 use Rattle.refusals.specs.Contract.{numbers_at}
+use Rattle.refusals.specs.declared.Refusal.{Refusal}
+use Rattle.refusals.specs.declared.Refused.{Refused}
 use Rattle.sheet.specs.Coded.{entry_codes, starts_from}
-use Rattle.sheet.specs.declared.Sheet.{Sheet}
-use Rattle.sheet.specs.declared.Sheet.TheVariants as sheet
+use Rattle.sheet.specs.declared.Size.{Size}
 
 -- the numbers of an answer: 0 and the numbers of devices and rules, or those of the refusal
-abbrev pub numbers_of : Sheet → List ℕ
-numbers_of (sheet.Hall n m) = 0 ∷ n ∷ m ∷ []
-numbers_of (sheet.Refused kind place) = numbers_at kind place
+abbrev pub numbers_of : Result Size (Refused Refusal) → List ℕ
+numbers_of (Ok s) = 0 ∷ s.devices ∷ s.rules ∷ []
+numbers_of (Err e) = numbers_at e.kind e.place
 
 abbrev pub numbers_read : Read Hall → List ℕ
 numbers_read (bad f i) = refusal_numbers f i
@@ -35,6 +36,6 @@ abbrev pub ArraysAfter : Read Hall → (costs codes starts costs' codes' starts'
 ArraysAfter (bad f i) costs codes starts costs' codes' starts' = Kept costs codes starts costs' codes' starts'
 ArraysAfter (got h j) costs codes starts costs' codes' starts' = Holds h costs codes starts costs' codes' starts'
 
-pub record Decodes (ws : List ℤ) (room : ℕ) (costs codes starts : List ℕ) (r : Sheet) (costs' codes' starts' : List ℕ) : Type 0 where
+pub record Decodes (ws : List ℤ) (room : ℕ) (costs codes starts : List ℕ) (r : Result Size (Refused Refusal)) (costs' codes' starts' : List ℕ) : Type 0 where
   pub says : numbers_of r ≡ numbers_read (decode room ws)
   pub arrays : ArraysAfter (decode room ws) costs codes starts costs' codes' starts'

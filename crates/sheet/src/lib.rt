@@ -10,32 +10,29 @@ mod check;
 mod coding;
 mod word;
 
-use refusals::Refusal;
+use refusals::{Refusal, Refused};
 
-// What a sheet is read as: a hall, with its numbers of devices and of rules; or a refusal and its place.
-#[derive(Clone, Copy)]
-pub enum Sheet {
-    Hall(usize, usize),
-    Refused(Refusal, usize),
+// The numbers of devices and of rules of a hall.
+#[derive(Clone, Copy, PartialEq, Eq)]
+pub struct Size {
+    pub devices: usize,
+    pub rules: usize,
 }
 
 // Reads a sheet for a plan room of so many bytes. A hall is coded into the three arrays: the costs; all entries in one run of codes;
-// and where each rule's codes start, with the end of the last.
+// and where each rule's codes start, with the end of the last. They stay three parameters: the contract says something else of each, and
+// a struct of them would be taken apart again at once.
 pub fn read(
     words: &[i32],
     room: usize,
     costs: &mut [u32; 200],
     codes: &mut [u16; 16384],
     starts: &mut [u16; 2001],
-) -> Sheet
+) -> Result<Size, Refused<Refusal>>
     ensures { Decodes words.now room costs.old codes.old starts.old result costs.new codes.new starts.new }
 {
-    match check::check(words, room) {
-        Sheet::Refused(kind, place) => Sheet::Refused(kind, place),
-        Sheet::Hall(n, m) => {
-            coding::put_costs(words, n, costs);
-            coding::put_rules(words, n, m, codes, starts);
-            Sheet::Hall(n, m)
-        }
-    }
+    let size = check::check(words, room)?;
+    coding::put_costs(words, size.devices, costs);
+    coding::put_rules(words, size.devices, size.rules, codes, starts);
+    Ok(size)
 }

@@ -1,81 +1,57 @@
 // One word of a sheet.
-ghost use Rattle.std.specs.Prelude.{◌≡◌, ◌≤◌};
+ghost use Rattle.std.specs.Prelude.{◌≡◌, ◌≤◌, ◌<◌, IfOk, length};
 ghost use Rattle.std.proofs.Math.ListN.{get_elem?};
-ghost use Rattle.hall.specs.Reading.{up_to};
-ghost use Rattle.sheet.specs.Word.{word_of, item_of, code_in, value_at, code_at};
+ghost use Rattle.hall.specs.Reading.{up_to, word, entry};
+ghost use Rattle.refusals.specs.Contract.{fault_of};
+ghost use Rattle.sheet.specs.Word.{split_at, value_at, code_at};
+ghost use Rattle.sheet.specs.Check.{count_of, code_of};
 
-use refusals::{Split, split_sign};
+use refusals::{Refusal, Refused, Split};
 
-// Up(n) is n, Down(k) is -(k + 1), Missing stands where the sheet has no such word.
-#[derive(Clone, Copy)]
-pub(crate) enum Word {
-    Up(u32),
-    Down(u32),
-    Missing,
-}
-
-// What a word is read as: a number, none in its range, or no word at all.
-#[derive(Clone, Copy)]
-pub(crate) enum Item {
-    Is(u32),
-    Outside,
-    Missing,
-}
-
-// A word with its sign split off.
-fn word_at(words: &[i32], at: usize) -> Word
-    ensures { result ≡ word_of (get_elem? words.now at) }
+// The word at a place, with its sign split off.
+#[tactic(auto, using(crate::proofs::Items::word_laws))]
+fn word_at(words: &[i32], at: usize) -> Result<Split, Refused<Refusal>>
+    ensures reads { result ≡ split_at (length words.now) (get_elem? words.now at) }
+    ensures here { IfOk result (λ split. at < length words.now) }
 {
-    if words.len() <= at {
-        return Word::Missing;
-    }
-    match split_sign(words[at]) {
-        Split::Up(v) => Word::Up(v),
-        Split::Down(k) => Word::Down(k),
+    match words.get(at) {
+        Some(word) => Ok(Split::from(*word)),
+        None => Err(Refused {
+            kind: Refusal::TooShort,
+            place: words.len(),
+        }),
     }
 }
 
-// A number from 0 to `most`.
-pub(crate) fn number_at(words: &[i32], at: usize, most: u32) -> Item
-    ensures { result ≡ item_of (up_to most) (get_elem? words.now at) }
+// A number from 0 to `most`; where the word is none, what is refused is of this kind.
+pub(crate) fn number_at(
+    words: &[i32],
+    at: usize,
+    most: u32,
+    kind: Refusal,
+) -> Result<u32, Refused<Refusal>>
+    ensures reads { result ≡ count_of (word (fault_of kind) (up_to most) words.now at) }
+    ensures small { IfOk result (λ v. v ≤ most) }
+    ensures here { IfOk result (λ v. at < length words.now) }
 {
-    match word_at(words, at) {
-        Word::Up(v) => {
-            if v <= most {
-                Item::Is(v)
-            } else {
-                Item::Outside
-            }
-        }
-        Word::Down(_) => Item::Outside,
-        Word::Missing => Item::Missing,
+    match word_at(words, at)? {
+        Split::Up(v) if v <= most => Ok(v),
+        _ => Err(Refused { kind, place: at }),
     }
 }
 
-// An entry of one of n devices, as its code.
-pub(crate) fn entry_at(words: &[i32], at: usize, n: u32) -> Item
-    requires { n ≤ 200 }
-    ensures { result ≡ item_of (code_in n) (get_elem? words.now at) }
+// An entry of one of n devices, of which there are at most 200, so that a byte counts them, as its code.
+#[tactic(auto, unfolding(crate::specs::Coded::entry_code))]
+pub(crate) fn entry_at(words: &[i32], at: usize, n: u8) -> Result<u16, Refused<Refusal>>
+    ensures { result ≡ code_of (entry n words.now at) }
 {
-    match word_at(words, at) {
-        Word::Up(v) => {
-            if v == 0 {
-                return Item::Outside;
-            }
-            if v <= n {
-                Item::Is(2 * (v - 1))
-            } else {
-                Item::Outside
-            }
-        }
-        Word::Down(k) => {
-            if k < n {
-                Item::Is(2 * k + 1)
-            } else {
-                Item::Outside
-            }
-        }
-        Word::Missing => Item::Missing,
+    match word_at(words, at)? {
+        Split::Up(v) if 0 < v && v <= n as u32 => Ok((2 * (v - 1)) as u16),
+        Split::Down(k) if k < n as u32 => Ok((2 * k + 1) as u16),
+        _ => Err(Refused {
+            kind: Refusal::BadEntry,
+            place: at,
+        }),
     }
 }
 
@@ -84,20 +60,14 @@ pub(crate) fn value_at(words: &[i32], at: usize) -> u32
     ensures { result ≡ value_at words.now at }
 {
     match word_at(words, at) {
-        Word::Up(v) => v,
-        Word::Down(_) => 0,
-        Word::Missing => 0,
+        Ok(Split::Up(v)) => v,
+        _ => 0,
     }
 }
 
 // The code of the entry that stands at a place of a good sheet.
-pub(crate) fn code_at(words: &[i32], at: usize, n: u32) -> u16
-    requires { n ≤ 200 }
+pub(crate) fn code_at(words: &[i32], at: usize, n: u8) -> u16
     ensures { result ≡ code_at n words.now at }
 {
-    match entry_at(words, at, n) {
-        Item::Is(code) => code as u16,
-        Item::Outside => 0,
-        Item::Missing => 0,
-    }
+    entry_at(words, at, n).unwrap_or(0)
 }

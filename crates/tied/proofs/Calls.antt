@@ -1,9 +1,9 @@
 -- From what the walk of the sheet finds, and the plans put in order, to the contract of `least_plans`.
 --
--- In order: a list that is known, as the contract (`listed_as`); where a best plan was found, what is known of it and of the plans that tie
--- (`Finished`, `finished`); more than 256 of them (`call_many`); else they lie in front of the room of our own (`call_small`, `call_end`),
--- and putting them in order leaves the list's plans, which have place in the caller's room (`call_listed`) or not
--- (`call_short`); the other cases (`call_none`, `call_spent`, `call_refused`). Assumes nothing.
+-- In order: a list that is known, as the contract (`listed_as`); what is known of the walk's outcome as it is handed on (`Handled`,
+-- `handled`, `ended`): of a best plan and of the plans that tie (`Finished`), else the contract itself; more than 256 plans
+-- (`call_many`); else they lie in front of the room of our own (`call_small`, `call_end`), and putting them in order leaves the list's
+-- plans, which have place in the caller's room (`call_listed`) or not (`call_short`). Assumes nothing.
 use mathlib.Core.Path.{◌≡◌, refl, sym, ◌∙◌, ap, subst}
 use mathlib.Core.Logic.{◌⊎◌, inl, inr}
 use mathlib.Core.Bool.{Bool, true, false, cond}
@@ -11,7 +11,7 @@ use mathlib.Core.List.{List}
 use Prim.Native.Nat.{ℕ, zero, suc, ◌-◌, ◌*◌, ◌≤◌, ◌<◌, min}
 use native.Mathlib.Nat.{mul-le-mul_right}
 use native.Mathlib.Omega.{arith}
-use lib.ListN.{length, take}
+use lib.ListN.{length, take, replicate, length-replicate}
 use lib.Seq.{take_all}
 use lib.IntN.{ℤ}
 use lib.Dec.{leb}
@@ -22,8 +22,9 @@ use Rattle.hall.specs.Hall.{Plan}
 use Rattle.hall.specs.Ties.{in_order, joined}
 use Rattle.hall.specs.Listing.{Listing, listed, none, spent, refused, short, fits, listed_by, listing, list_numbers, list_room_after}
 use Rattle.hall.proofs.Listed.{fits_exact, over_exact}
-use Rattle.refusals.specs.Contract.{kind_of}
 use Rattle.refusals.specs.declared.Refusal.{Refusal}
+use Rattle.refusals.specs.declared.Refused.{Refused}
+use Rattle.std.specs.Prelude.{Result, Ok, Err}
 use Rattle.plans.specs.Runs.{plans_in, written_in, PutsInOrder}
 use Rattle.plans.proofs.Writing.{write_fits}
 use Rattle.plans.proofs.Runs.{plans_none, joined_length, plans_joined}
@@ -32,10 +33,12 @@ use Rattle.walk.specs.declared.Outcome.TheVariants as walk
 use Rattle.walk.specs.Contract as walks
 use Rattle.walk.specs.Contract.{Found, found_room, ties_found}
 use Rattle.walk.proofs.Outcomes.{outcome_of, outcome_is}
-use Rattle.tied.specs.declared.Hindrance.TheVariants.{BadSheet, ShortRoom}
-use Rattle.tied.specs.declared.Tied.TheVariants.{Plans, None, Spent, Refused}
-use Rattle.tied.specs.Contract.{ListsTies}
+use Rattle.refusals.specs.declared.RoomRefusal.TheVariants.{ShortRoom}
+use Rattle.tied.specs.declared.Tied.{Tied}
+use Rattle.tied.specs.declared.Tied.TheVariants.{Plans, None, Spent}
+use Rattle.tied.specs.Contract.{Hindrance, ListsTies}
 use Rattle.tied.proofs.Numbers.{tied_of, tied_numbers}
+use Rattle.tied.proofs.Under.{under, Under, under_is}
 use Rattle.tied.proofs.Claim.{lists_ties}
 use Rattle.tied.proofs.Handed.{Handed, Agrees, agrees}
 
@@ -55,123 +58,100 @@ module _ (ws : List ℤ) (budget : ℕ) (before : List ℕ) where
   listed_as a after is room =
       lists_ties ws budget before (tied_of a) after (tied_numbers a ∙ sym (ap list_numbers is)) (room ∙ sym (ap (λ (b : Listing). list_room_after b before) is))
 
-  module _ (run run' : List ℕ) (o : Outcome) (x : walks.Finds (ties_found ws budget) run o run') where
-    agreed : Agrees (length before) (ties_found ws budget) (listing ws budget (length before))
-    agreed = agrees ws budget (length before)
-
-    -- ── a best plan was found ──
-    record Finished (n cost held equal opened : ℕ) : Type 0 where
+  -- ── the walk's outcome was handed on ──
+  module _ (run run' : List ℕ) where
+    -- a best plan was found: the plans that tie as they were handed on, and the list that they make
+    pub record Finished (n cost held number opened : ℕ) : Type 0 where
       pub ts : List Plan
       pub ps : List Plan
       pub handed : Handed n ts ps
-      pub count : equal ≡ min 257 (length ts)
+      pub count : number ≡ min 257 (length ts)
       pub wrote : run' ≡ written_in (joined (take 256 ts)) run
       pub is : listing ws budget (length before) ≡ listed_by (fits (length before) ps) (length before) cost held opened ps
 
-    module _ {n cost held equal opened : ℕ} (best : o ≡ walk.Best n cost held equal opened) where
-      finished : Finished n cost held equal opened
-      finished = go (ties_found ws budget) (outcome_is x) x.room agreed
-        where
-          go : (f : Found) → o ≡ outcome_of f → run' ≡ found_room f run → Agrees (length before) f (listing ws budget (length before)) → Finished n cost held equal opened
-          go (walks.best n' c k o' ts) e room a =
-              let u : n ≡ n' = cc in
-              let v : cost ≡ c = cc in
-              let w : held ≡ k = cc in
-              let y : opened ≡ o' = cc in
-              let z : equal ≡ min 257 (length ts) = cc in
-              record { ts = ts; ps = a.0; handed = rw u a.1; count = z; wrote = room; is = rw (v, w, y) a.2 }
-          go (walks.none o') e room a = absurd (let z : ◌≡◌ {A = ℕ} 0 1 = cc in omega arith)
-          go (walks.spent o') e room a = absurd (let z : ◌≡◌ {A = ℕ} 0 1 = cc in omega arith)
-          go (walks.refused f i) e room a = absurd (let z : ◌≡◌ {A = ℕ} 0 1 = cc in omega arith)
+    -- a refusal is among the kinds of hindrance by now
+    abbrev pub Handled : Result Outcome (Refused Hindrance) → Type 0
+    Handled (Ok (walk.Best n cost held number opened)) = Finished n cost held number opened
+    Handled (Ok (walk.None opened)) = ListsTies ws budget before (Ok (None opened)) before
+    Handled (Ok (walk.Spent opened)) = ListsTies ws budget before (Ok (Spent opened)) before
+    Handled (Err e) = ListsTies ws budget before (Err e) before
 
-      -- the list does not fit
-      too_short_lem : (256 < length finished.ps) ⊎ (length before < length (joined finished.ps)) → (after : List ℕ) → after ≡ before → ListsTies ws budget before (Refused ShortRoom (length before)) after
-      too_short_lem l after same =
-          let f = finished in
-          listed_as (short (length before)) after (f.is ∙ ap (λ (t : Bool). listed_by t (length before) cost held opened f.ps) ((over_exact (length before) f.ps).1 l)) same
+    by_case : (f : Found) → run' ≡ found_room f run → Agrees (length before) f (listing ws budget (length before)) → Handled (under (outcome_of f))
+    by_case (walks.best n cost held opened ts) room a = record { ts = ts; ps = a.0; handed = a.1; count = refl; wrote = room; is = a.2 }
+    by_case (walks.none opened) room a = listed_as (none opened) before a refl
+    by_case (walks.spent opened) room a = listed_as (spent opened) before a refl
+    by_case (walks.refused f i) room a = listed_as (refused f i) before a refl
 
-      pub call_many : 256 < equal → ListsTies ws budget before (Refused ShortRoom (length before)) before
-      call_many l = let f = finished in too_short_lem (inl (omega (arith, f.count, f.handed.number))) before refl
+    module _ {o : Result Outcome (Refused Refusal)} (x : walks.Finds (ties_found ws budget) run o run') where
+      pub handled : (m : Result Outcome (Refused Hindrance)) → Under o m → Handled m
+      handled m u = subst Handled (sym (under_is o m u ∙ ap under (outcome_is x))) (by_case (ties_found ws budget) x.room (agrees ws budget (length before)))
 
-      -- ── no more than 256 ──
-      module _ (few : equal ≤ 256) where
-        number : equal ≡ length finished.ts
-        number = omega (arith, finished.count)
+      pub ended : {found s : Outcome} → Under o (Ok found) → found ≡ s → Handled (Ok s)
+      ended {found} u e = subst (λ (s : Outcome). Handled (Ok s)) e (handled (Ok found) u)
 
-        pub call_small : equal * n ≤ 51200
-        call_small = omega (arith, mul-le-mul_right {m = equal} {n = 256} n few, finished.handed.few)
+      -- ── a best plan was found ──
+      module _ {found : Outcome} (u : Under o (Ok found)) {n cost held number opened : ℕ} (e : found ≡ walk.Best n cost held number opened) where
+        f : Finished n cost held number opened
+        f = ended u e
 
-        size : equal * n ≡ length (joined finished.ts)
-        size = ap (λ (k : ℕ). k * n) number ∙ sym (joined_length n finished.ts finished.handed.sizes)
+        abbrev over : Result Tied (Refused Hindrance)
+        over = Err (record { kind = ShortRoom; place = length before })
 
-        module _ (long : length run ≡ 51200) where
-          front : run' ≡ in_front (joined finished.ts) run
-          front =
-              let ts = finished.ts in
-              finished.wrote
-              ∙ ap (λ (qs : List Plan). written_in (joined qs) run) (take_all 256 ts (omega (arith, number)))
-              ∙ write_fits (joined ts) run (omega (arith, size, call_small))
+        -- the list does not fit
+        too_short : (256 < length f.ps) ⊎ (length before < length (joined f.ps)) → (after : List ℕ) → after ≡ before → ListsTies ws budget before over after
+        too_short l after same =
+            listed_as (short (length before)) after (f.is ∙ ap (λ (t : Bool). listed_by t (length before) cost held opened f.ps) ((over_exact (length before) f.ps).1 l)) same
 
-          pub call_end : equal * n ≤ length run'
-          call_end = omega (arith, call_small, long, ap length front, room_as_long (joined finished.ts) run (omega (arith, size, call_small)))
+        pub call_many : 256 < number → ListsTies ws budget before over before
+        call_many l = too_short (inl (omega (arith, f.count, f.handed.number))) before refl
 
-          -- ── the plans put in order ──
-          module _ {r : Bool} {after : List ℕ} (put : PutsInOrder n (take (equal * n - 0) run') before r after) where
-            ordered : PutsInOrder n (joined finished.ts) before r after
-            ordered = subst (λ (l : List ℕ). PutsInOrder n l before r after) (front_taken (joined finished.ts) run run' (equal * n) size front) put
+        -- ── no more than 256 ──
+        module _ (few : number ≤ 256) where
+          all : number ≡ length f.ts
+          all = omega (arith, f.count)
 
-            abbrev place : Bool
-            place = leb (length (joined finished.ts)) (length before)
+          pub call_small : number * n ≤ 51200
+          call_small = omega (arith, mul-le-mul_right {m = number} {n = 256} n few, f.handed.few)
 
-            pub call_listed : r ≡ true → ListsTies ws budget before (Plans cost held equal opened) after
-            call_listed e =
-                let f = finished in
-                let d = f.handed in
-                let has : place ≡ true = sym ordered.says ∙ e in
-                let l = leb-true (length (joined f.ts)) (length before) has in
-                let all : equal ≡ length f.ps = number ∙ d.number in
-                let fit = (fits_exact (length before) f.ps).1 (omega arith, omega (arith, handed_length n f.ts f.ps d)) in
-                let put-there = ordered.room ∙ ap (λ (t : Bool). cond t (in_front (joined (in_order (plans_in n (joined f.ts)))) before) before) has
-                ∙ ap (λ (l : List ℕ). in_front l before) (handed_order n f.ts f.ps d) in
-                rw all
-                (listed_as (listed cost held opened f.ps) after (f.is ∙ ap (λ (t : Bool). listed_by t (length before) cost held opened f.ps) fit) put-there)
+          size : number * n ≡ length (joined f.ts)
+          size = ap (λ (k : ℕ). k * n) all ∙ sym (joined_length n f.ts f.handed.sizes)
 
-            pub call_short : r ≡ false → ListsTies ws budget before (Refused ShortRoom (length after)) after
-            call_short e =
-                let f = finished in
-                let not : place ≡ false = sym ordered.says ∙ e in
-                let l = leb-false (length (joined f.ts)) (length before) not in
-                let same : after ≡ before = ordered.room ∙ ap (λ (t : Bool). cond t (in_front (joined (in_order (plans_in n (joined f.ts)))) before) before) not in
-                subst (λ (place : ℕ). ListsTies ws budget before (Refused ShortRoom place) after) (sym (ap length same))
-                (too_short_lem (inr (omega (arith, handed_length n f.ts f.ps f.handed))) after same)
+          module _ (made : run ≡ replicate 51200 0) where
+            long : length run ≡ 51200
+            long = ap length made ∙ length-replicate {A = ℕ} 51200 0
 
-    -- ── the other cases ──
-    pub call_none : {opened : ℕ} → o ≡ walk.None opened → ListsTies ws budget before (None opened) before
-    call_none {opened} e = go (ties_found ws budget) (outcome_is x) agreed
-      where
-        go : (f : Found) → o ≡ outcome_of f → Agrees (length before) f (listing ws budget (length before)) → ListsTies ws budget before (None opened) before
-        go (walks.best n c k o' ts) is a = absurd (let z : ◌≡◌ {A = ℕ} 0 1 = cc in omega arith)
-        go (walks.none o') is a = let same : opened ≡ o' = cc in rw same (listed_as (none o') before a refl)
-        go (walks.spent o') is a = absurd (let z : ◌≡◌ {A = ℕ} 0 1 = cc in omega arith)
-        go (walks.refused f i) is a = absurd (let z : ◌≡◌ {A = ℕ} 0 1 = cc in omega arith)
+            front : run' ≡ in_front (joined f.ts) run
+            front =
+                f.wrote
+                ∙ ap (λ (qs : List Plan). written_in (joined qs) run) (take_all 256 f.ts (omega (arith, all)))
+                ∙ write_fits (joined f.ts) run (omega (arith, long, size, call_small))
 
-    pub call_spent : {opened : ℕ} → o ≡ walk.Spent opened → ListsTies ws budget before (Spent opened) before
-    call_spent {opened} e = go (ties_found ws budget) (outcome_is x) agreed
-      where
-        go : (f : Found) → o ≡ outcome_of f → Agrees (length before) f (listing ws budget (length before)) → ListsTies ws budget before (Spent opened) before
-        go (walks.best n c k o' ts) is a = absurd (let z : ◌≡◌ {A = ℕ} 0 1 = cc in omega arith)
-        go (walks.none o') is a = absurd (let z : ◌≡◌ {A = ℕ} 0 1 = cc in omega arith)
-        go (walks.spent o') is a = let same : opened ≡ o' = cc in rw same (listed_as (spent o') before a refl)
-        go (walks.refused f i) is a = absurd (let z : ◌≡◌ {A = ℕ} 0 1 = cc in omega arith)
+            pub call_end : number * n ≤ length run'
+            call_end = omega (arith, call_small, long, ap length front, room_as_long (joined f.ts) run (omega (arith, long, size, call_small)))
 
-    pub call_refused : {kind : Refusal} {place : ℕ} → o ≡ walk.Refused kind place → ListsTies ws budget before (Refused (BadSheet kind) place) before
-    call_refused {kind} {place} e = go (ties_found ws budget) (outcome_is x) agreed
-      where
-        go : (f : Found) → o ≡ outcome_of f → Agrees (length before) f (listing ws budget (length before)) → ListsTies ws budget before (Refused (BadSheet kind) place) before
-        go (walks.best n c k o' ts) is a = absurd (let z : ◌≡◌ {A = ℕ} 0 1 = cc in omega arith)
-        go (walks.none o') is a = absurd (let z : ◌≡◌ {A = ℕ} 0 1 = cc in omega arith)
-        go (walks.spent o') is a = absurd (let z : ◌≡◌ {A = ℕ} 0 1 = cc in omega arith)
-        go (walks.refused f i) is a =
-            let same : kind ≡ kind_of f = cc in
-            let at_place : place ≡ i = cc in
-            rw (same, at_place) (listed_as (refused f i) before a refl)
+            -- ── the plans put in order ──
+            module _ {r : Bool} {after : List ℕ} (put : PutsInOrder n (take (number * n - 0) run') before r after) where
+              ordered : PutsInOrder n (joined f.ts) before r after
+              ordered = subst (λ (l : List ℕ). PutsInOrder n l before r after) (front_taken (joined f.ts) run run' (number * n) size front) put
+
+              abbrev place : Bool
+              place = leb (length (joined f.ts)) (length before)
+
+              pub call_listed : r ≡ true → ListsTies ws budget before (Ok (Plans cost held number opened)) after
+              call_listed e =
+                  let d = f.handed in
+                  let has : place ≡ true = sym ordered.says ∙ e in
+                  let l = leb-true (length (joined f.ts)) (length before) has in
+                  let as_many : number ≡ length f.ps = all ∙ d.number in
+                  let fit = (fits_exact (length before) f.ps).1 (omega arith, omega (arith, handed_length n f.ts f.ps d)) in
+                  let put-there = ordered.room ∙ ap (λ (t : Bool). cond t (in_front (joined (in_order (plans_in n (joined f.ts)))) before) before) has
+                  ∙ ap (λ (l : List ℕ). in_front l before) (handed_order n f.ts f.ps d) in
+                  rw as_many
+                  (listed_as (listed cost held opened f.ps) after (f.is ∙ ap (λ (t : Bool). listed_by t (length before) cost held opened f.ps) fit) put-there)
+
+              pub call_short : r ≡ false → ListsTies ws budget before over after
+              call_short e =
+                  let not : place ≡ false = sym ordered.says ∙ e in
+                  let l = leb-false (length (joined f.ts)) (length before) not in
+                  let same : after ≡ before = ordered.room ∙ ap (λ (t : Bool). cond t (in_front (joined (in_order (plans_in n (joined f.ts)))) before) before) not in
+                  too_short (inr (omega (arith, handed_length n f.ts f.ps f.handed))) after same

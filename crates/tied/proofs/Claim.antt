@@ -14,13 +14,15 @@ use Rattle.hall.specs.Ties.{joined}
 use Rattle.hall.specs.Listing.{Listing, listed, none, spent, refused, short, listing, list_numbers, list_room_after, Lists}
 use Rattle.hall.proofs.Sheets.{devices_on_lem}
 use Rattle.hall.proofs.Listed.{lists}
+use Rattle.refusals.specs.declared.Refused.{Refused}
 use Rattle.refusals.proofs.Faults.{fault_kind}
+use Rattle.std.specs.Prelude.{Result}
 use Rattle.plans.proofs.Runs.{Sized, plans_in_front}
 use Rattle.tied.specs.declared.Tied.{Tied}
-use Rattle.tied.specs.Contract.{numbers_of, listing_of, plans_of, ListsTies}
+use Rattle.tied.specs.Contract.{Hindrance, numbers_of, listing_of, plans_of, ListsTies}
 use Rattle.tied.proofs.Numbers.{tied_of, tied_is}
 
-module _ (ws : List ℤ) (budget : ℕ) (before : List ℕ) (r : Tied) (after : List ℕ) where
+module _ (ws : List ℤ) (budget : ℕ) (before : List ℕ) (r : Result Tied (Refused Hindrance)) (after : List ℕ) where
   stands : (a : Listing) → r ≡ tied_of a → after ≡ list_room_after a before → Lists ws budget (length before) a → listing_of r (plans_of ws r after) ≡ a
   stands (listed cost held opened ps) is room s =
       let sizes : Sized (devices_on ws) ps = each_of (λ (q : Plan). length q ≡ devices_on ws) ps (λ q i. (s.list.only q i).0.plan.size ∙ sym (devices_on_lem s.least.sheet)) in

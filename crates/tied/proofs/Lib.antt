@@ -1,5 +1,5 @@
 -- Laws, in the order in which the functions need them; then what the contracts give.
-pub mod ToldHindrances
+pub mod Under
 pub mod Numbers
 pub mod Claim
 pub mod Handed

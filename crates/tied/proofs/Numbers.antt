@@ -14,11 +14,12 @@ use Rattle.refusals.specs.Contract.{fault_of, kind_of, numbers_at}
 use Rattle.refusals.specs.declared.Refusal.{Refusal}
 use Rattle.refusals.proofs.Faults.{fault_kind}
 use Rattle.refusals.proofs.Only.{refusal_only}
-use Rattle.tied.specs.declared.Hindrance.{Hindrance}
-use Rattle.tied.specs.declared.Hindrance.TheVariants.{BadSheet, ShortRoom}
+use Rattle.refusals.specs.declared.Refused.{Refused}
+use Rattle.refusals.specs.declared.RoomRefusal.TheVariants.{BadSheet, ShortRoom}
+use Rattle.std.specs.Prelude.{Result, Ok, Err}
 use Rattle.tied.specs.declared.Tied.{Tied}
-use Rattle.tied.specs.declared.Tied.TheVariants.{Plans, None, Spent, Refused}
-use Rattle.tied.specs.Contract.{hindrance_numbers, numbers_of}
+use Rattle.tied.specs.declared.Tied.TheVariants.{Plans, None, Spent}
+use Rattle.tied.specs.Contract.{Hindrance, hindrance_numbers, numbers_of}
 
 -- ── refusals ──
 pub hindrance_large : (x : Hindrance) (place : ℕ) (numbers : List ℕ) → hindrance_numbers x place ≡ numbers → 11 ≤ get_or numbers 0 0
@@ -35,36 +36,36 @@ hindrance_only ShortRoom (BadSheet l) i j e = absurd (small_code l j i (sym e))
 hindrance_only ShortRoom ShortRoom i j e = (refl, cc)
 
 -- ── answers ──
-pub numbers_injective : (r s : Tied) → numbers_of r ≡ numbers_of s → r ≡ s
-numbers_injective (Plans c k n o) (Plans c' k' n' o') e =
+pub numbers_injective : (r s : Result Tied (Refused Hindrance)) → numbers_of r ≡ numbers_of s → r ≡ s
+numbers_injective (Ok (Plans c k n o)) (Ok (Plans c' k' n' o')) e =
     let u : c ≡ c' = cc in
     let v : k ≡ k' = cc in
     let w : n ≡ n' = cc in
     let x : o ≡ o' = cc in
     rw (u, v, w, x)
-numbers_injective (Plans c k n o) (None o') e = absurd (let z : ◌≡◌ {A = ℕ} 0 1 = cc in omega arith)
-numbers_injective (Plans c k n o) (Spent o') e = absurd (let z : ◌≡◌ {A = ℕ} 0 2 = cc in omega arith)
-numbers_injective (Plans c k n o) (Refused y j) e = absurd (omega (arith, hindrance_large y j _ (sym e)))
-numbers_injective (None o) (Plans c k n o') e = absurd (let z : ◌≡◌ {A = ℕ} 1 0 = cc in omega arith)
-numbers_injective (None o) (None o') e = ap None (cc)
-numbers_injective (None o) (Spent o') e = absurd (let z : ◌≡◌ {A = ℕ} 1 2 = cc in omega arith)
-numbers_injective (None o) (Refused y j) e = absurd (omega (arith, hindrance_large y j _ (sym e)))
-numbers_injective (Spent o) (Plans c k n o') e = absurd (let z : ◌≡◌ {A = ℕ} 2 0 = cc in omega arith)
-numbers_injective (Spent o) (None o') e = absurd (let z : ◌≡◌ {A = ℕ} 2 1 = cc in omega arith)
-numbers_injective (Spent o) (Spent o') e = ap Spent (cc)
-numbers_injective (Spent o) (Refused y j) e = absurd (omega (arith, hindrance_large y j _ (sym e)))
-numbers_injective (Refused x i) (Plans c k n o) e = absurd (omega (arith, hindrance_large x i _ e))
-numbers_injective (Refused x i) (None o) e = absurd (omega (arith, hindrance_large x i _ e))
-numbers_injective (Refused x i) (Spent o) e = absurd (omega (arith, hindrance_large x i _ e))
-numbers_injective (Refused x i) (Refused y j) e = let z = hindrance_only x y i j e in rw (z.0, z.1)
+numbers_injective (Ok (Plans c k n o)) (Ok (None o')) e = absurd (let z : ◌≡◌ {A = ℕ} 0 1 = cc in omega arith)
+numbers_injective (Ok (Plans c k n o)) (Ok (Spent o')) e = absurd (let z : ◌≡◌ {A = ℕ} 0 2 = cc in omega arith)
+numbers_injective (Ok (Plans c k n o)) (Err y) e = absurd (omega (arith, hindrance_large y.kind y.place _ (sym e)))
+numbers_injective (Ok (None o)) (Ok (Plans c k n o')) e = absurd (let z : ◌≡◌ {A = ℕ} 1 0 = cc in omega arith)
+numbers_injective (Ok (None o)) (Ok (None o')) e = let x : o ≡ o' = cc in rw x
+numbers_injective (Ok (None o)) (Ok (Spent o')) e = absurd (let z : ◌≡◌ {A = ℕ} 1 2 = cc in omega arith)
+numbers_injective (Ok (None o)) (Err y) e = absurd (omega (arith, hindrance_large y.kind y.place _ (sym e)))
+numbers_injective (Ok (Spent o)) (Ok (Plans c k n o')) e = absurd (let z : ◌≡◌ {A = ℕ} 2 0 = cc in omega arith)
+numbers_injective (Ok (Spent o)) (Ok (None o')) e = absurd (let z : ◌≡◌ {A = ℕ} 2 1 = cc in omega arith)
+numbers_injective (Ok (Spent o)) (Ok (Spent o')) e = let x : o ≡ o' = cc in rw x
+numbers_injective (Ok (Spent o)) (Err y) e = absurd (omega (arith, hindrance_large y.kind y.place _ (sym e)))
+numbers_injective (Err x) (Ok (Plans c k n o)) e = absurd (omega (arith, hindrance_large x.kind x.place _ e))
+numbers_injective (Err x) (Ok (None o)) e = absurd (omega (arith, hindrance_large x.kind x.place _ e))
+numbers_injective (Err x) (Ok (Spent o)) e = absurd (omega (arith, hindrance_large x.kind x.place _ e))
+numbers_injective (Err x) (Err y) e = let z = hindrance_only x.kind y.kind x.place y.place e in ap Err (rw (z.0, z.1))
 
 -- ── a list as an answer ──
-abbrev pub tied_of : Listing → Tied
-tied_of (listed cost held opened ps) = Plans cost held (length ps) opened
-tied_of (none opened) = None opened
-tied_of (spent opened) = Spent opened
-tied_of (refused f place) = Refused (BadSheet (kind_of f)) place
-tied_of (short place) = Refused ShortRoom place
+abbrev pub tied_of : Listing → Result Tied (Refused Hindrance)
+tied_of (listed cost held opened ps) = Ok (Plans cost held (length ps) opened)
+tied_of (none opened) = Ok (None opened)
+tied_of (spent opened) = Ok (Spent opened)
+tied_of (refused f place) = Err (record { kind = BadSheet (kind_of f); place = place })
+tied_of (short place) = Err (record { kind = ShortRoom; place = place })
 
 pub tied_numbers : (a : Listing) → numbers_of (tied_of a) ≡ list_numbers a
 tied_numbers (listed cost held opened ps) = refl
@@ -73,5 +74,5 @@ tied_numbers (spent opened) = refl
 tied_numbers (refused f place) = rw (fault_kind f) refl
 tied_numbers (short place) = refl
 
-pub tied_is : (r : Tied) (a : Listing) → numbers_of r ≡ list_numbers a → r ≡ tied_of a
+pub tied_is : (r : Result Tied (Refused Hindrance)) (a : Listing) → numbers_of r ≡ list_numbers a → r ≡ tied_of a
 tied_is r a e = numbers_injective r (tied_of a) (e ∙ sym (tied_numbers a))

@@ -32,17 +32,19 @@ use Rattle.refusals.specs.declared.Refusal.{Refusal}
 use Rattle.refusals.specs.declared.Refusal.TheVariants.{SmallRoom}
 use Rattle.refusals.proofs.Faults.{kind_fault}
 use Rattle.plans.specs.Runs.{plans_from}
-use Rattle.tied.specs.declared.Hindrance.TheVariants.{BadSheet, ShortRoom}
+use Rattle.refusals.specs.declared.Refused.{Refused}
+use Rattle.refusals.specs.declared.RoomRefusal.TheVariants.{BadSheet, ShortRoom}
+use Rattle.std.specs.Prelude.{Result, Ok, Err}
 use Rattle.tied.specs.declared.Tied.{Tied}
-use Rattle.tied.specs.declared.Tied.TheVariants.{Plans, None, Spent, Refused}
-use Rattle.tied.specs.Contract.{listing_of, plans_of, ListsTies}
+use Rattle.tied.specs.declared.Tied.TheVariants.{Plans, None, Spent}
+use Rattle.tied.specs.Contract.{Hindrance, listing_of, plans_of, ListsTies}
 use Rattle.tied.proofs.Numbers.{numbers_injective, tied_of, tied_is}
 
-pub ties_only : (ws : List ℤ) (budget : ℕ) (before : List ℕ) (r s : Tied) (after after' : List ℕ) → ListsTies ws budget before r after → ListsTies ws budget before s after' → (r ≡ s) × (after ≡ after')
+pub ties_only : (ws : List ℤ) (budget : ℕ) (before : List ℕ) (r s : Result Tied (Refused Hindrance)) (after after' : List ℕ) → ListsTies ws budget before r after → ListsTies ws budget before s after' → (r ≡ s) × (after ≡ after')
 ties_only ws budget before r s after after' t u = (numbers_injective r s (t.says ∙ sym u.says), t.room ∙ sym u.room)
 
 -- ── each case exactly where it holds ──
-module _ (ws : List ℤ) (budget : ℕ) (before : List ℕ) (r : Tied) (after : List ℕ) (t : ListsTies ws budget before r after) where
+module _ (ws : List ℤ) (budget : ℕ) (before : List ℕ) (r : Result Tied (Refused Hindrance)) (after : List ℕ) (t : ListsTies ws budget before r after) where
   -- the plans in the room, and the list that they make
   abbrev plans : List Plan
   plans = plans_of ws r after
@@ -57,55 +59,55 @@ module _ (ws : List ℤ) (budget : ℕ) (before : List ℕ) (r : Tied) (after : 
   case : (a : Listing) → list ≡ a → r ≡ tied_of a
   case a e = tied_is r a (t.says ∙ ap list_numbers (list_is ∙ e))
 
-  as_list : (s : Tied) → r ≡ s → list ≡ listing_of s plans
-  as_list s e = ap (λ (x : Tied). listing_of x plans) e
+  as_list : (s : Result Tied (Refused Hindrance)) → r ≡ s → list ≡ listing_of s plans
+  as_list s e = ap (λ (x : Result Tied (Refused Hindrance)). listing_of x plans) e
 
-  pub refused_where : (kind : Refusal) (place : ℕ) → (r ≡ Refused (BadSheet kind) place) ↔ Reason (fault_of kind) place ws 200
+  pub refused_where : (kind : Refusal) (place : ℕ) → (r ≡ Err (record { kind = BadSheet kind; place = place })) ↔ Reason (fault_of kind) place ws 200
   refused_where kind place =
       let x = lists.list_refused_where ws budget (length before) list t.claim (fault_of kind) place in (
         λ e. x.0 (as_list _ e),
-        λ y. case (refused (fault_of kind) place) (x.1 y) ∙ ap (λ (k : Refusal). Refused (BadSheet k) place) (kind_fault kind),
+        λ y. case (refused (fault_of kind) place) (x.1 y) ∙ ap (λ (k : Refusal). Err (record { kind = BadSheet k; place = place })) (kind_fault kind),
       )
 
-  pub never_refused : (h : Hall) → SheetOf h ws 200 → (kind : Refusal) (place : ℕ) → r ≢ Refused (BadSheet kind) place
+  pub never_refused : (h : Hall) → SheetOf h ws 200 → (kind : Refusal) (place : ℕ) → r ≢ Err (record { kind = BadSheet kind; place = place })
   never_refused h s kind place e = lists.list_never_refused ws budget (length before) list t.claim h s (fault_of kind) place (as_list _ e)
 
-  pub else_refused : ((h : Hall) → SheetOf h ws 200 → ⊥) → (kind : Refusal) × (place : ℕ) × (r ≡ Refused (BadSheet kind) place)
+  pub else_refused : ((h : Hall) → SheetOf h ws 200 → ⊥) → (kind : Refusal) × (place : ℕ) × (r ≡ Err (record { kind = BadSheet kind; place = place }))
   else_refused n = let x = lists.list_else_refused ws budget (length before) list t.claim n in (kind_of x.0, x.1, case (refused x.0 x.1) x.2)
 
   -- "after 16, which isn't given here"
-  pub never_small_room : (place : ℕ) → r ≢ Refused (BadSheet SmallRoom) place
+  pub never_small_room : (place : ℕ) → r ≢ Err (record { kind = BadSheet SmallRoom; place = place })
   never_small_room place e = lists.never_small_room ws budget (length before) list t.claim place (as_list _ e)
 
-  pub spent_number : (opened : ℕ) → r ≡ Spent opened → opened ≡ budget
+  pub spent_number : (opened : ℕ) → r ≡ Ok (Spent opened) → opened ≡ budget
   spent_number opened e = lists.list_spent_number ws budget (length before) list t.claim opened (as_list _ e)
 
   module _ (h : Hall) (s : SheetOf h ws 200) where
-    pub spent_where : (r ≡ Spent budget) ↔ (budget < (walk_hall h).opened)
+    pub spent_where : (r ≡ Ok (Spent budget)) ↔ (budget < (walk_hall h).opened)
     spent_where =
         let x = lists.list_spent_where ws budget (length before) list t.claim h s in
         (λ e. x.0 (as_list _ e), λ l. case (spent budget) (x.1 l))
 
-    pub never_spent : bound_of h ≤ budget → (opened : ℕ) → r ≢ Spent opened
+    pub never_spent : bound_of h ≤ budget → (opened : ℕ) → r ≢ Ok (Spent opened)
     never_spent l opened e = lists.list_never_spent ws budget (length before) list t.claim h s l opened (as_list _ e)
 
     module _ (allowed : (walk_hall h).opened ≤ budget) where
-      pub none_where : (r ≡ None (walk_hall h).opened) ↔ NoneOf Satisfies h
+      pub none_where : (r ≡ Ok (None (walk_hall h).opened)) ↔ NoneOf Satisfies h
       none_where =
           let x = lists.list_none_where ws budget (length before) list t.claim h s allowed in
           (λ e. x.0 (as_list _ e), λ n. case (none (walk_hall h).opened) (x.1 n))
 
       module _ (p : Plan) (ps : List Plan) (least : LeastOf Satisfies h p) (ties : AllTies Satisfies h p ps) where
-        pub plans_where : ((r ≡ Plans (cost_of h.costs p) (held_of p) (length ps) (walk_hall h).opened) × (plans ≡ ps)) ↔ ((length ps ≤ 256) × (length (joined ps) ≤ length before))
+        pub plans_where : ((r ≡ Ok (Plans (cost_of h.costs p) (held_of p) (length ps) (walk_hall h).opened)) × (plans ≡ ps)) ↔ ((length ps ≤ 256) × (length (joined ps) ≤ length before))
         plans_where =
             let x = lists.listed_where ws budget (length before) list t.claim h s allowed p ps least ties in
             let a = listed (cost_of h.costs p) (held_of p) (walk_hall h).opened ps in
             (λ e. x.0 (as_list _ e.0 ∙ ap (listed (cost_of h.costs p) (held_of p) (walk_hall h).opened) e.1), λ l. (case a (x.1 l), stand (case a (x.1 l)) (x.1 l)))
           where
-            stand : {cost held number opened : ℕ} → r ≡ Plans cost held number opened → list ≡ listed cost held opened ps → plans ≡ ps
+            stand : {cost held number opened : ℕ} → r ≡ Ok (Plans cost held number opened) → list ≡ listed cost held opened ps → plans ≡ ps
             stand e m = let same = sym (as_list _ e) ∙ m in cc
 
-        pub short_where : (r ≡ Refused ShortRoom (length before)) ↔ ((256 < length ps) ⊎ (length before < length (joined ps)))
+        pub short_where : (r ≡ Err (record { kind = ShortRoom; place = length before })) ↔ ((256 < length ps) ⊎ (length before < length (joined ps)))
         short_where =
             let x = lists.short_where ws budget (length before) list t.claim h s allowed p ps least ties in
             (λ e. x.0 (as_list _ e), λ l. case (short (length before)) (x.1 l))
@@ -115,7 +117,7 @@ module _ (ws : List ℤ) (budget : ℕ) (before : List ℕ) (r : Tied) (after : 
     pub beside_search : Beside list b
     beside_search = with_search ws budget (length before) list b t.claim d
 
-    pub search_first : (cost held number opened : ℕ) → r ≡ Plans cost held number opened → b ≡ search.least cost held opened (take (devices_on ws) after)
+    pub search_first : (cost held number opened : ℕ) → r ≡ Ok (Plans cost held number opened) → b ≡ search.least cost held opened (take (devices_on ws) after)
     unfolding plans_from
     search_first cost held number opened e = go number (rw e at beside_search)
       where
@@ -124,7 +126,7 @@ module _ (ws : List ℤ) (budget : ℕ) (before : List ℕ) (r : Tied) (after : 
         go (suc many) g = let e = g.first in let same : take (devices_on ws) after ≡ g.plan = cc in g.least ∙ rw same refl
 
 -- ── what a budget does ──
-pub same_under_more : (ws : List ℤ) (before : List ℕ) (budget more : ℕ) (r s : Tied) (after after' : List ℕ) → ListsTies ws budget before r after → ((opened : ℕ) → r ≢ Spent opened) → budget ≤ more → ListsTies ws more before s after' → (r ≡ s) × (after ≡ after')
+pub same_under_more : (ws : List ℤ) (before : List ℕ) (budget more : ℕ) (r s : Result Tied (Refused Hindrance)) (after after' : List ℕ) → ListsTies ws budget before r after → ((opened : ℕ) → r ≢ Ok (Spent opened)) → budget ≤ more → ListsTies ws more before s after' → (r ≡ s) × (after ≡ after')
 same_under_more ws before budget more r s after after' t n l u =
     let a = listing_of r (plans_of ws r after) in
     let b = listing_of s (plans_of ws s after') in

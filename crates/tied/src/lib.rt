@@ -4,57 +4,60 @@
 // the caller's room, which is written once, and only where it holds them all.
 #![tactic(auto)]
 
-ghost use Rattle.refusals.specs.Contract.{Tells};
-ghost use Rattle.tied.specs.Contract.{hindrance_numbers, ListsTies};
+ghost use Rattle.tied.specs.Contract.{ListsTies};
 
-use refusals::Refusal;
+use refusals::{Refused, RoomRefusal};
 use walk::Outcome;
 
-// The kinds of refusal: those of a sheet; a room that is too short for the plans, or more than 256 of them.
-#[derive(Clone, Copy)]
-pub enum Hindrance {
-    BadSheet(Refusal),
-    ShortRoom,
-}
+// The kinds of refusal: those of a sheet; or a room that is too short for the plans, or more than 256 of them, which has the code 51.
+pub type Hindrance = RoomRefusal<51>;
 
-// Cost, devices held, number of plans and nodes opened; or nodes opened; or the kind of refusal and its place.
-#[derive(Clone, Copy)]
+// Cost, devices held, number of plans and nodes opened; or nodes opened, where there is no plan or the budget is spent.
+#[derive(Clone, Copy, PartialEq, Eq)]
 pub enum Tied {
-    Plans(u64, u32, u32, u32),
+    Plans {
+        cost: u64,
+        held: u32,
+        number: u32,
+        opened: u32,
+    },
     None(u32),
     Spent(u32),
-    Refused(Hindrance, usize),
-}
-
-// The paper's numbers of a refusal go to the front of the array: its code, its place and, for a width, the number of its rule. How many
-// they are is returned.
-pub fn numbers_of(hindrance: Hindrance, place: usize, numbers: &mut [u64; 4]) -> usize
-    ensures { Tells (hindrance_numbers hindrance place) numbers.old result numbers.new }
-{
-    match hindrance {
-        Hindrance::BadSheet(refusal) => refusals::numbers_of(refusal, place, numbers),
-        Hindrance::ShortRoom => refusals::tell_code(51, place, numbers),
-    }
 }
 
 // The least plans of a sheet, under a budget of trial plans; they go to the front of the room, each behind the last one.
-pub fn least_plans(words: &[i32], budget: u32, room: &mut [u8]) -> Tied
+pub fn least_plans(words: &[i32], budget: u32, room: &mut [u8]) -> Result<Tied, Refused<Hindrance>>
     ensures { ListsTies words.now budget room.old result room.new }
 {
     let mut run = rooms::ties_room();
-    match walk::ties_of(words, budget, &mut run) {
-        Outcome::Best(n, cost, held, equal, opened) => {
-            if 256 < equal {
-                return Tied::Refused(Hindrance::ShortRoom, room.len());
+    let found = walk::ties_of(words, budget, &mut run).map_err(Refused::under)?;
+    match found {
+        Outcome::Best {
+            devices,
+            cost,
+            held,
+            plans: number,
+            opened,
+        } => {
+            let short = Refused {
+                kind: Hindrance::ShortRoom,
+                place: room.len(),
+            };
+            if 256 < number {
+                return Err(short);
             }
-            let end = equal as usize * n;
-            if plans::put_in_order(n, &run[0..end], room) {
-                return Tied::Plans(cost, held, equal, opened);
+            let end = number as usize * devices;
+            if !plans::put_in_order(devices, &run[0..end], room) {
+                return Err(short);
             }
-            Tied::Refused(Hindrance::ShortRoom, room.len())
+            Ok(Tied::Plans {
+                cost,
+                held,
+                number,
+                opened,
+            })
         }
-        Outcome::None(opened) => Tied::None(opened),
-        Outcome::Spent(opened) => Tied::Spent(opened),
-        Outcome::Refused(kind, place) => Tied::Refused(Hindrance::BadSheet(kind), place),
+        Outcome::None(opened) => Ok(Tied::None(opened)),
+        Outcome::Spent(opened) => Ok(Tied::Spent(opened)),
     }
 }

@@ -1,17 +1,14 @@
 -- The bytes that a token is made of.
 --
--- In order: the last of the four separators (`separator_last`); the range of a digit (`digit_range`); digits and the minus are no
+-- In order: the range of a digit (`digit_range`); digits and the minus are no
 -- separators (`digit_in_token`, `minus_in_token`). Assumes nothing.
 use mathlib.Core.Path.{◌≡◌, refl}
 use mathlib.Core.Bool.{Bool, true, false, ◌&&◌, false≢true}
 use Prim.Native.Nat.{ℕ, ◌≤◌}
 use native.Mathlib.Omega.{arith}
-use lib.Dec.{leb, eqb}
+use lib.Dec.{leb}
 use borrow.Author.Tests.{leb-true, ne_eqb}
-use Rattle.typed.specs.Text.{is_separator, in_token, is_digit}
-
-pub separator_last : (b : ℕ) → (b ≡ 9 → ⊥) → (b ≡ 10 → ⊥) → (b ≡ 13 → ⊥) → eqb b 32 ≡ is_separator b
-separator_last b x y z = simp (ne_eqb b 9 x, ne_eqb b 10 y, ne_eqb b 13 z)
+use Rattle.typed.specs.Text.{in_token, is_digit}
 
 pub digit_range : (b : ℕ) → is_digit b ≡ true → (48 ≤ b) × (b ≤ 57)
 digit_range b e = go (leb 48 b) (leb b 57) refl refl e

@@ -3,7 +3,6 @@ pub mod AnswerTable
 pub mod Digits
 pub mod Fronts
 pub mod Decimals
-pub mod Signs
 pub mod Judging
 pub mod Splitting
 pub mod Taking

@@ -13,6 +13,8 @@ use native.Mathlib.Nat.{pow-suc, mod-lt, div-add-mod', div-lt_iff_lt-mul, div-lt
 use lib.ListN.{length, length-append}
 use lib.IntN.{ℤ, pos, negsuc, neg_ℤ}
 use lib.Dec.{ltb, lit<}
+use Rattle.std.proofs.Common.{Result, Ok}
+use Rattle.refusals.specs.declared.Refused.{Refused}
 use borrow.Author.Tests.{ltb-true, ltb-false, le-leb}
 use Rattle.lists.specs.Lists.{Each, in_front}
 use Rattle.lists.proofs.Each.{each_append}
@@ -20,8 +22,7 @@ use Rattle.typed.specs.Text.{Read, got, is_separator, is_digit, decimal, read_te
 use Rattle.typed.specs.Answer.{reading_of, numbers_of, room_after, Reads}
 use Rattle.typed.specs.Allowed.{Passing, WordSized, Allowed, nothing, word, Spells, ended, last}
 use Rattle.typed.specs.Printing.{digits_by, digits_of, printed_word, printed}
-use Rattle.typed.specs.declared.Reading.{Reading}
-use Rattle.typed.specs.declared.Reading.TheVariants.{Words}
+use Rattle.typed.specs.declared.Mistake.{Mistake}
 use Rattle.typed.proofs.Only.{numbers_injective}
 use Rattle.typed.proofs.Verdicts.{verdict_only}
 
@@ -134,10 +135,10 @@ printed_reads words room h short fits =
     verdict_only (printed words) room (got words) (record { short = short; fits = fits; spells = printed_spells words h })
 
 -- so `read` answers their number and puts them at the front of the room
-pub printed_back : (words before : List ℤ) {r : Reading} {after : List ℤ} → Each WordSized words → length (printed words) ≤ 60000
+pub printed_back : (words before : List ℤ) {r : Result ℕ (Refused Mistake)} {after : List ℤ} → Each WordSized words → length (printed words) ≤ 60000
     → length words ≤ length before
-    → Reads (printed words) before r after → (r ≡ Words (length words)) × (after ≡ in_front words before)
+    → Reads (printed words) before r after → (r ≡ Ok (length words)) × (after ≡ in_front words before)
 printed_back words before {r} h short fits x =
     let e = printed_reads words (length before) h short fits in
     let told = x.says ∙ ap (λ (y : Read (List ℤ)). numbers_of (reading_of y)) e in
-    (numbers_injective r (Words (length words)) told, x.room ∙ ap (λ (y : Read (List ℤ)). room_after y before) e)
+    (numbers_injective r (Ok (length words)) told, x.room ∙ ap (λ (y : Read (List ℤ)). room_after y before) e)

@@ -2,10 +2,11 @@
 // other texts.
 //
 // The text is read twice: `scan` finds the first mistake or the number of words and writes nothing, `fill` writes. So the room
-// is unchanged on every refusal, and no copy of it is needed.
+// is unchanged on every refusal, and no copy of it is needed. A text and a place in it travel as two arguments: a place is all that a token
+// found tells, and a value of both would only be taken apart again.
 #![tactic(auto)]
 
-ghost use Rattle.std.specs.Prelude.{◌≡◌};
+ghost use Rattle.std.specs.Prelude.{◌≡◌, [], ◌∷◌};
 ghost use Rattle.typed.specs.Text.{mistake_code, tokens_at};
 ghost use Rattle.typed.specs.Answer.{Reads};
 ghost use Rattle.typed.specs.Next.{span_of, next_of};
@@ -14,12 +15,13 @@ mod bytes;
 mod token;
 mod words;
 
-use bytes::{separators_end, token_end};
-use token::{Said, said_by};
+use bytes::{token_len, token_start};
+use refusals::{Kind, Refused, tell_code};
+use token::said_by;
 use words::{fill, scan};
 
 // The kinds of mistake, in the table's order.
-#[derive(Clone, Copy)]
+#[derive(Clone, Copy, PartialEq, Eq)]
 pub enum Mistake {
     WrongByte,
     BadNumber,
@@ -27,80 +29,69 @@ pub enum Mistake {
     NoRoom,
 }
 
-// What a text is read as: so many words; or a mistake and its place.
-#[derive(Clone, Copy)]
-pub enum Reading {
-    Words(usize),
-    Refused(Mistake, usize),
-}
+impl Kind for Mistake {
+    // The paper's code of each kind of mistake, and its place.
+    ghost told = { λ mistake place. mistake_code mistake ∷ place ∷ [] };
 
-// Where the next token starts and ends; or there is none.
-#[derive(Clone, Copy)]
-pub enum Span {
-    End,
-    Token(usize, usize),
-}
-
-// What the next token says: a word, with the places where the token starts and ends; a mistake and its place; or there is none.
-#[derive(Clone, Copy)]
-pub enum Next {
-    End,
-    Found(i32, usize, usize),
-    Bad(Mistake, usize),
-}
-
-// The paper's code of each kind of mistake.
-pub fn code_of(mistake: Mistake) -> u32
-    ensures { result ≡ mistake_code mistake }
-{
-    match mistake {
-        Mistake::WrongByte => 21,
-        Mistake::BadNumber => 22,
-        Mistake::TooLong => 23,
-        Mistake::NoRoom => 24,
+    fn tell(self, place: usize, numbers: &mut [u64; 4]) -> usize {
+        match self {
+            Mistake::WrongByte => tell_code(21, place, numbers),
+            Mistake::BadNumber => tell_code(22, place, numbers),
+            Mistake::TooLong => tell_code(23, place, numbers),
+            Mistake::NoRoom => tell_code(24, place, numbers),
+        }
     }
+}
+
+// Where a token starts and ends.
+#[derive(Clone, Copy, PartialEq, Eq)]
+pub struct Span {
+    pub start: usize,
+    pub end: usize,
+}
+
+// A word, with the places where its token starts and ends.
+#[derive(Clone, Copy, PartialEq, Eq)]
+pub struct Found {
+    pub word: i32,
+    pub start: usize,
+    pub end: usize,
 }
 
 // The next token from a place on, at which none is going on. Behind the text's end there is none.
-pub fn next_token(text: &[u8], from: usize) -> Span
+#[tactic(auto, using(crate::proofs::Splitting::next_span, crate::proofs::Splitting::span_past))]
+pub fn next_token(text: &[u8], from: usize) -> Option<Span>
     ensures { result ≡ span_of (tokens_at text.now from) }
 {
-    if text.len() <= from {
-        return Span::End;
-    }
-    let start = separators_end(text, from);
-    if text.len() <= start {
-        return Span::End;
-    }
-    let end = token_end(text, start);
-    Span::Token(start, end)
+    let start = from + token_start(text.get(from..)?)?;
+    let end = start + token_len(&text[start..]);
+    Some(Span { start, end })
 }
 
 // The next word from a place on, at which no token is going on.
-pub fn next_word(text: &[u8], from: usize) -> Next
+#[tactic(auto, using(crate::proofs::Splitting::span_within))]
+pub fn next_word(text: &[u8], from: usize) -> Result<Option<Found>, Refused<Mistake>>
     ensures { result ≡ next_of (tokens_at text.now from) }
 {
-    match next_token(text, from) {
-        Span::End => Next::End,
-        Span::Token(start, end) => match said_by(&text[start..end], start) {
-            Said::Word(z) => Next::Found(z, start, end),
-            Said::Mistaken(mistake, place) => Next::Bad(mistake, place),
-        },
-    }
+    let Some(Span { start, end }) = next_token(text, from) else {
+        return Ok(None);
+    };
+    let word = said_by(&text[start..end], start)?;
+    Ok(Some(Found { word, start, end }))
 }
 
-// The values of a text's tokens go to the front of the room; where there is a mistake, the room stays as it was.
-pub fn read(text: &[u8], room: &mut [i32]) -> Reading
+// The values of a text's tokens go to the front of the room; how many they are is returned. Where there is a mistake, the room stays
+// as it was.
+pub fn read(text: &[u8], room: &mut [i32]) -> Result<usize, Refused<Mistake>>
     ensures { Reads text.now room.old result room.new }
 {
     if 60000 < text.len() {
-        return Reading::Refused(Mistake::TooLong, 60000);
+        return Err(Refused {
+            kind: Mistake::TooLong,
+            place: 60000,
+        });
     }
-    match scan(text, room.len()) {
-        Reading::Words(w) => {
-            fill(text, room);
-            Reading::Words(w)
-        }
-        Reading::Refused(mistake, place) => Reading::Refused(mistake, place),
-    }
+    let words = scan(text, room.len())?;
+    fill(text, &mut room[..words]);
+    Ok(words)
 }

@@ -6,17 +6,15 @@ use mathlib.Core.List.{List}
 use Prim.Native.Nat.{ℕ, ◌+◌, ◌≤◌, ◌<◌}
 use native.Mathlib.Omega.{arith}
 use lib.ListN.{length}
+use Rattle.std.proofs.Common.{Result, Ok, Err}
 use lib.Dec.{ltb}
 use borrow.Author.Tests.{ltb-true, ltb-false}
 use Rattle.hall.specs.Hall.{Hall}
 use Rattle.hall.specs.Walk.{Walked, after}
 use Rattle.hall.proofs.Keeping.{keep_append}
 use Rattle.walk.specs.declared.meter.Meter.{Meter}
-use Rattle.walk.specs.declared.meter.Admission.{Admission}
-use Rattle.walk.specs.declared.meter.Admission.TheVariants.{Admitted, Stopped}
+use Rattle.walk.specs.declared.meter.Spent.{Spent}
 use Rattle.walk.specs.declared.kept.State.{State}
-use Rattle.walk.specs.declared.walk.Went.{Went}
-use Rattle.walk.specs.declared.walk.Went.TheVariants.{On, Spent}
 use Rattle.walk.specs.Meter.{counted, admit}
 use Rattle.walk.specs.Kept.{Holds}
 use Rattle.walk.specs.Ends.{WentOn, Ends}
@@ -29,9 +27,9 @@ module _ {h : Hall} {s : State} {kept : List ℕ} {v : Walked} {next : State} {k
   pub still_budgeted : next.meter.count ≤ next.meter.budget
   still_budgeted = let l = left in let w = x.within in omega arith
 
-  pub ends_then : (w : Walked) (went : Went) (kept'' : List ℕ) → Ends h next kept' w went kept'' → Ends h s kept (after v w) went kept''
+  pub ends_then : (w : Walked) (went : Result State Spent) (kept'' : List ℕ) → Ends h next kept' w went kept'' → Ends h s kept (after v w) went kept''
   unfolding after
-  ends_then w (On last) kept'' y =
+  ends_then w (Ok last) kept'' y =
       let l = left in
       let u = y.within in
       record {
@@ -42,24 +40,23 @@ module _ {h : Hall} {s : State} {kept : List ℕ} {v : Walked} {next : State} {k
         most = y.most ∙ x.most;
         ties = λ k q. subst (Holds (length h.costs) last kept'') (sym (keep_append h k v.plans w.plans)) (y.ties _ (x.ties k q));
       }
-  ends_then w (Spent end) kept'' y = let l = left in let u = y.over in record { over = omega arith; count = y.count ∙ l.1 }
+  ends_then w (Err end) kept'' y = let l = left in let u = y.over in record { over = omega arith; count = y.count ∙ l.1 }
 
 -- ── the meter ──
-module _ (mt : Meter) (a : Admission) (e : a ≡ admit mt) where
-  pub admitted : (next : Meter) → a ≡ Admitted next → (mt.count + 1 ≤ mt.budget) × (next ≡ counted 1 mt)
+module _ (mt : Meter) (a : Result Meter Spent) (e : a ≡ admit mt) where
+  pub admitted : (next : Meter) → a ≡ Ok next → (mt.count + 1 ≤ mt.budget) × (next ≡ counted 1 mt)
   admitted next f = go (ltb mt.count mt.budget) refl (sym e ∙ f)
     where
-      go : (t : Bool) → ltb mt.count mt.budget ≡ t → cond t (Admitted (counted 1 mt)) (Stopped mt) ≡ Admitted next → (mt.count + 1 ≤ mt.budget) × (next ≡ counted 1 mt)
+      go : (t : Bool) → ltb mt.count mt.budget ≡ t → cond {A = Result Meter Spent} t (Ok (counted 1 mt)) (Err (record { opened = mt.count })) ≡ Ok next → (mt.count + 1 ≤ mt.budget) × (next ≡ counted 1 mt)
       go true u h = (omega (arith, ltb-true mt.count mt.budget u), cc)
-      go false u h = let z : ◌≡◌ {A = ℕ} 0 1 = cc in absurd (omega arith)
+      go false u h = cc
 
-  pub stopped : (end : Meter) → a ≡ Stopped end → mt.count ≤ mt.budget → (mt.budget < mt.count + 1) × (end.count ≡ mt.budget)
+  pub stopped : (end : Spent) → a ≡ Err end → mt.count ≤ mt.budget → (mt.budget < mt.count + 1) × (end.opened ≡ mt.budget)
   stopped end f le = go (ltb mt.count mt.budget) refl (sym e ∙ f)
     where
-      go : (t : Bool) → ltb mt.count mt.budget ≡ t → cond t (Admitted (counted 1 mt)) (Stopped mt) ≡ Stopped end → (mt.budget < mt.count + 1) × (end.count ≡ mt.budget)
-      go true u h = let z : ◌≡◌ {A = ℕ} 0 1 = cc in absurd (omega arith)
+      go : (t : Bool) → ltb mt.count mt.budget ≡ t → cond {A = Result Meter Spent} t (Ok (counted 1 mt)) (Err (record { opened = mt.count })) ≡ Err end → (mt.budget < mt.count + 1) × (end.opened ≡ mt.budget)
+      go true u h = cc
       go false u h =
           let l = ltb-false mt.count mt.budget u in
-          let same : end ≡ mt = cc in
-          let k = ap (λ (n : Meter). n.count) same in
+          let k : mt.count ≡ end.opened = cc in
           (omega arith, omega arith)

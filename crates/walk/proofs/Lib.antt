@@ -4,6 +4,7 @@ pub mod Costs
 pub mod Unmet
 pub mod Ends
 pub mod Nodes
+pub mod Prices
 pub mod Noting
 pub mod Openings
 pub mod Steps

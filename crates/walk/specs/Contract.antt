@@ -1,8 +1,8 @@
 -- The contracts of `best_of` and `ties_of`: what the walk of a sheet finds, in numbers and in the lent room.
 --
 -- In order: the numbers of an outcome; what is found, with the plans that are handed on; its numbers and its room; what the two functions
--- find; their contract. Definitions only.
-use Rattle.std.specs.Prelude.{◌≡◌, List, [], ◌∷◌, ℕ, min, length, take, ℤ}
+-- find; either of it, by what is asked for; their contract. Definitions only.
+use Rattle.std.specs.Prelude.{◌≡◌, List, [], ◌∷◌, ℕ, min, length, take, ℤ, Result, Ok, Err}
 use Rattle.hall.specs.Hall.{Hall, Plan}
 use Rattle.hall.specs.Walk.{walk_hall}
 use Rattle.hall.specs.Reading.{Fault, refusal_numbers, Read, bad, got, decode}
@@ -11,15 +11,19 @@ use Rattle.hall.specs.Answer.{within, answer}
 use Rattle.hall.specs.Ties.{nothing_kept, keep_all, joined}
 use Rattle.plans.specs.Runs.{written_in}
 use Rattle.refusals.specs.Contract.{numbers_at}
+use Rattle.refusals.specs.declared.Refusal.{Refusal}
+use Rattle.refusals.specs.declared.Refused.{Refused}
+use Rattle.walk.specs.declared.solve.Asked.{Asked}
+use Rattle.walk.specs.declared.solve.Asked.TheVariants as asked
 use Rattle.walk.specs.declared.Outcome.{Outcome}
-use Rattle.walk.specs.declared.Outcome.TheVariants.{Best, None, Spent, Refused}
+use Rattle.walk.specs.declared.Outcome.TheVariants.{Best, None, Spent}
 
 -- 0, devices, cost, devices held, plans and nodes; else as "Code" and "Returned" of 01's table
-abbrev pub numbers_of : Outcome → List ℕ
-numbers_of (Best n cost held equal opened) = 0 ∷ n ∷ cost ∷ held ∷ equal ∷ opened ∷ []
-numbers_of (None opened) = 1 ∷ opened ∷ []
-numbers_of (Spent opened) = 2 ∷ opened ∷ []
-numbers_of (Refused kind place) = numbers_at kind place
+abbrev pub numbers_of : Result Outcome (Refused Refusal) → List ℕ
+numbers_of (Ok (Best n cost held equal opened)) = 0 ∷ n ∷ cost ∷ held ∷ equal ∷ opened ∷ []
+numbers_of (Ok (None opened)) = 1 ∷ opened ∷ []
+numbers_of (Ok (Spent opened)) = 2 ∷ opened ∷ []
+numbers_of (Err e) = numbers_at e.kind e.place
 
 -- what the walk of a sheet finds: a best plan with its numbers, and the plans that are handed on; else as the answer's cases
 pub data Found : Type 0 where
@@ -64,7 +68,19 @@ ties_read budget (got h i) = found_of (λ p. kept_ties h) (within h budget (walk
 abbrev pub ties_found : List ℤ → (budget : ℕ) → Found
 ties_found ws budget = ties_read budget (decode 200 ws)
 
+-- either, by what is asked for
+abbrev pub handed : Asked → Hall → Plan → List Plan
+handed asked.Best h p = p ∷ []
+handed asked.Ties h p = kept_ties h
+
+abbrev pub found_read : Asked → (budget : ℕ) → Read Hall → Found
+found_read a budget (bad f i) = refused f i
+found_read a budget (got h i) = found_of (handed a h) (within h budget (walk_hall h))
+
+abbrev pub found : Asked → List ℤ → (room budget : ℕ) → Found
+found a ws room budget = found_read a budget (decode room ws)
+
 -- the contract of both: what is found, the room before, the outcome and the room afterwards
-pub record Finds (f : Found) (before : List ℕ) (r : Outcome) (after : List ℕ) : Type 0 where
+pub record Finds (f : Found) (before : List ℕ) (r : Result Outcome (Refused Refusal)) (after : List ℕ) : Type 0 where
   pub says : numbers_of r ≡ found_numbers f
   pub room : after ≡ found_room f before

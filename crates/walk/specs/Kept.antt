@@ -1,25 +1,27 @@
 -- What a walk keeps, in its room: the best plan so far in front, and behind it a run of the plans that tie with it. 02, request 5.
 --
--- In order: the tests on the numbers; plans in a run; the contracts of the functions that keep a plan; all that is kept, against what the
+-- In order: the tests on the prices; plans in a run; the contracts of the functions that keep a plan; all that is kept, against what the
 -- definitions keep (Rattle.hall.specs.Ties). Definitions only.
-use Rattle.std.specs.Prelude.{◌≡◌, Bool, true, false, cond, ◌&&◌, List, [], ◌∷◌, ◌++◌, ℕ, suc, ◌+◌, ◌*◌, ◌≤◌, min, length, take, drop, eqb}
+use Rattle.std.specs.Prelude.{◌≡◌, Bool, true, false, ◌&&◌, List, [], ◌∷◌, ◌++◌, ℕ, suc, ◌+◌, ◌*◌, ◌≤◌, min, length, take, drop, eqb, Option, Some, None}
 use Rattle.lists.specs.Lists.{Each}
 use Rattle.hall.specs.Hall.{Plan}
 use Rattle.hall.specs.Order.{less}
 use Rattle.hall.specs.Ties as hall
 use Rattle.hall.specs.Ties.{stands_in, noted_by, joined}
-use Rattle.walk.specs.declared.kept.BestSoFar.{BestSoFar}
+use Rattle.walk.specs.declared.kept.Price.{Price}
 use Rattle.walk.specs.declared.kept.Ties.{Ties}
 use Rattle.walk.specs.declared.kept.State.{State}
 use Rattle.walk.specs.Best.{best_of, Settles}
 
--- a plan with these numbers is the first, or lower than the best so far in cost or, at equal cost, in held number
-abbrev pub is_lower : BestSoFar → ℕ → ℕ → Bool
-is_lower best cost held = cond best.found (less (cost ∷ held ∷ []) (best.cost ∷ best.held ∷ [])) true
+-- a plan of this price is the first, or lower than the best so far in cost or, at equal cost, in held number
+abbrev pub is_lower : Option Price → Price → Bool
+is_lower None price = true
+is_lower (Some least) price = less (price.cost ∷ price.held ∷ []) (least.cost ∷ least.held ∷ [])
 
--- it has the numbers of the best so far
-abbrev pub is_equal : BestSoFar → ℕ → ℕ → Bool
-is_equal best cost held = eqb cost best.cost && eqb held best.held
+-- it has the price of the best so far
+abbrev pub is_equal : Option Price → Price → Bool
+is_equal None price = false
+is_equal (Some least) price = eqb price.cost least.cost && eqb price.held least.held
 
 -- ── plans in a run ──
 -- a run begins with the first plans of ts, up to as many as are asked for; counted are those of ts, up to one more
@@ -44,10 +46,10 @@ pub record Notes (p : Plan) (run : List ℕ) (ties r : Ties) (run' : List ℕ) :
   pub most : r.most ≡ ties.most
   pub stores : (ts : List Plan) → Stored (length p) ties run ts → Stored (length p) r run' (noted_by false true p ts)
 
--- after a plan that meets every rule, whatever its numbers
-pub record Reties (p : Plan) (run : List ℕ) (ties : Ties) (best : BestSoFar) (cost held : ℕ) (r : Ties) (run' : List ℕ) : Type 0 where
+-- after a plan that meets every rule, whatever its price
+pub record Reties (p : Plan) (run : List ℕ) (ties : Ties) (best : Option Price) (price : Price) (r : Ties) (run' : List ℕ) : Type 0 where
   pub most : r.most ≡ ties.most
-  pub stores : (ts : List Plan) → Stored (length p) ties run ts → Stored (length p) r run' (noted_by (is_lower best cost held) (is_equal best cost held) p ts)
+  pub stores : (ts : List Plan) → Stored (length p) ties run ts → Stored (length p) r run' (noted_by (is_lower best price) (is_equal best price) p ts)
 
 -- ── the room of both ──
 -- the best plan has place in front, and behind it each plan that is asked for
@@ -57,10 +59,10 @@ pub record Roomy (n : ℕ) (kept : List ℕ) (ties : Ties) : Type 0 where
   pub long : n + ties.most * n ≤ length kept
 
 -- step 1 was done in front, and the ties behind
-pub record Keeps (p kept : List ℕ) (s : State) (cost held : ℕ) (s' : State) (kept' : List ℕ) : Type 0 where
+pub record Keeps (p kept : List ℕ) (s : State) (price : Price) (s' : State) (kept' : List ℕ) : Type 0 where
   pub meter : s'.meter ≡ s.meter
-  pub settles : Settles s.best (take (length p) kept) p cost held s'.best (take (length p) kept')
-  pub reties : Reties p (drop (length p) kept) s.ties s.best cost held s'.ties (drop (length p) kept')
+  pub settles : Settles s.best (take (length p) kept) p price s'.best (take (length p) kept')
+  pub reties : Reties p (drop (length p) kept) s.ties s.best price s'.ties (drop (length p) kept')
 
 -- what lies in the room is what the definitions keep
 pub record Holds (n : ℕ) (s : State) (kept : List ℕ) (k : hall.Kept) : Type 0 where

@@ -1,18 +1,18 @@
 // What a walk keeps of the plans that meet every rule: the best so far, and those that tie with it. 01, "The walk", step 1; 02, request 5.
 //
-// One room serves both: the best plan lies in front, and behind it lie the plans equal to it in cost and held number, each once and in the
-// order in which they were opened, up to as many as are asked for. Where none is asked for, as for the least plan alone, nothing but the
-// best is written. The plans are put in order later, once: doing so at every leaf would be dear.
+// One room serves both: the best plan lies in front, and behind it lie the plans equal to it in price, each once and in the order in which
+// they were opened, up to as many as are asked for. Where none is asked for, as for the least plan alone, nothing but the best is written.
+// The plans are put in order later, once: doing so at every leaf would be dear.
 ghost use Rattle.std.specs.Prelude.{◌≡◌, length, take, drop};
-ghost use Rattle.walk.specs.Best.{is_better, Settles};
-ghost use Rattle.walk.specs.Kept.{is_lower, is_equal, IsNoted, Notable, Notes, Reties, Roomy, Keeps};
+ghost use Rattle.walk.specs.Best.{compared, is_better, Settles};
+ghost use Rattle.walk.specs.Kept.{IsNoted, Notable, Notes, Reties, Roomy, Keeps};
 
 use crate::meter::Meter;
+use std::cmp::Ordering;
 
-// The numbers of the best plan so far, which lies in its room where `found` says so.
-#[derive(Clone, Copy)]
-pub(crate) struct BestSoFar {
-    pub(crate) found: bool,
+// A plan's cost and the number of devices that it holds. The lower price is the lower cost or, at equal cost, fewer devices.
+#[derive(Clone, Copy, PartialEq, Eq, PartialOrd, Ord)]
+pub(crate) struct Price {
     pub(crate) cost: u64,
     pub(crate) held: u32,
 }
@@ -24,93 +24,56 @@ pub(crate) struct Ties {
     pub(crate) count: u32,
 }
 
-// What a walk carries from node to node.
+// What a walk carries from node to node: `best` is the price of the best plan so far.
 #[derive(Clone, Copy)]
 pub(crate) struct State {
     pub(crate) meter: Meter,
-    pub(crate) best: BestSoFar,
+    pub(crate) best: Option<Price>,
     pub(crate) ties: Ties,
 }
 
-// The question of step 1.
-fn is_better(plan: &[u8], best: &[u8], numbers: BestSoFar, cost: u64, held: u32) -> bool
-    ensures { result ≡ is_better numbers best.now plan.now cost held }
+// How the price of a plan that meets every rule compares with that of the best so far: the first such plan is the lower one. Both prices
+// travel as two arguments, since one is kept and the other passes by.
+fn compared(best: Option<Price>, price: Price) -> Ordering
+    ensures { result ≡ compared best price }
 {
-    if !numbers.found {
-        return true;
+    match best {
+        Some(least) => price.cmp(&least),
+        None => Ordering::Less,
     }
-    if cost < numbers.cost {
-        return true;
+}
+
+// The question of step 1.
+fn is_better(plan: &[u8], best_plan: &[u8], best: Option<Price>, price: Price) -> bool
+    ensures { result ≡ is_better best best_plan.now plan.now price }
+{
+    match compared(best, price) {
+        Ordering::Less => true,
+        Ordering::Equal => plans::comes_before(plan, best_plan),
+        Ordering::Greater => false,
     }
-    if numbers.cost < cost {
-        return false;
-    }
-    if held < numbers.held {
-        return true;
-    }
-    if numbers.held < held {
-        return false;
-    }
-    plans::comes_before(plan, best)
 }
 
 // Step 1, at a plan that meets every rule.
-fn settle(plan: &[u8], best: &mut [u8], numbers: BestSoFar, cost: u64, held: u32) -> BestSoFar
-    requires { length best.old ≡ length plan.now }
-    ensures { Settles numbers best.old plan.now cost held result best.new }
+fn settle(plan: &[u8], best_plan: &mut [u8], best: Option<Price>, price: Price) -> Option<Price>
+    requires { length best_plan.old ≡ length plan.now }
+    ensures { Settles best best_plan.old plan.now price result best_plan.new }
 {
-    if is_better(plan, best, numbers, cost, held) {
-        plans::write_plan(plan, best);
-        return BestSoFar {
-            found: true,
-            cost,
-            held,
-        };
+    if is_better(plan, best_plan, best, price) {
+        plans::write_plan(plan, best_plan);
+        return Some(price);
     }
-    numbers
-}
-
-// Whether a plan is the first, or lower than the best so far in cost or, at equal cost, in held number.
-fn is_lower(numbers: BestSoFar, cost: u64, held: u32) -> bool
-    ensures { result ≡ is_lower numbers cost held }
-{
-    if !numbers.found {
-        return true;
-    }
-    if cost < numbers.cost {
-        return true;
-    }
-    if numbers.cost < cost {
-        return false;
-    }
-    held < numbers.held
-}
-
-// Whether it has the numbers of the best so far.
-fn is_equal(numbers: BestSoFar, cost: u64, held: u32) -> bool
-    ensures { result ≡ is_equal numbers cost held }
-{
-    if cost != numbers.cost {
-        return false;
-    }
-    held == numbers.held
+    best
 }
 
 // Whether a plan is one of the `count` plans of a run. A plan of no devices is the only one of its hall.
 fn is_noted(plan: &[u8], run: &[u8], count: u32) -> bool
     ensures { IsNoted plan.now run.now count result }
 {
-    if plan.len() == 0 {
+    if plan.is_empty() {
         return 0 < count;
     }
     plans::stands_in(plan, run)
-}
-
-// How many plans: an argument is known to fit its type, which a field is not.
-fn many(count: u32) -> usize
-    ensures { result ≡ count }
-{
-    count as usize
 }
 
 // A plan that ties goes behind the others, where it is not there yet and is asked for.
@@ -118,54 +81,45 @@ fn note(plan: &[u8], run: &mut [u8], ties: Ties) -> Ties
     requires { Notable (length plan.now) run.old ties }
     ensures { Notes plan.now run.old ties result run.new }
 {
-    let most = ties.most;
-    let count = ties.count;
-    if most < count {
+    if ties.most < ties.count {
         return ties;
     }
-    let end = many(count) * plan.len();
-    if is_noted(plan, &run[0..end], count) {
+    let end = ties.count as usize * plan.len();
+    if is_noted(plan, &run[..end], ties.count) {
         return ties;
     }
-    let more = Ties {
-        most,
-        count: count + 1,
-    };
-    if count < most {
+    if ties.count < ties.most {
         plans::write_plan(plan, &mut run[end..]);
-        return more;
     }
-    more
+    Ties {
+        count: ties.count + 1,
+        ..ties
+    }
 }
 
 // The plans that tie, after a plan that meets every rule.
-fn retie(plan: &[u8], run: &mut [u8], ties: Ties, numbers: BestSoFar, cost: u64, held: u32) -> Ties
+fn retie(plan: &[u8], run: &mut [u8], ties: Ties, best: Option<Price>, price: Price) -> Ties
     requires { Notable (length plan.now) run.old ties }
-    ensures { Reties plan.now run.old ties numbers cost held result run.new }
+    ensures { Reties plan.now run.old ties best price result run.new }
 {
-    if is_lower(numbers, cost, held) {
-        let none = Ties {
-            most: ties.most,
-            count: 0,
-        };
-        return note(plan, run, none);
+    match compared(best, price) {
+        Ordering::Less => note(plan, run, Ties { count: 0, ..ties }),
+        Ordering::Equal => note(plan, run, ties),
+        Ordering::Greater => ties,
     }
-    if is_equal(numbers, cost, held) {
-        return note(plan, run, ties);
-    }
-    ties
 }
 
 // Both, at a plan that meets every rule.
-pub(crate) fn keep(plan: &[u8], kept: &mut [u8], state: State, cost: u64, held: u32) -> State
+pub(crate) fn keep(plan: &[u8], kept: &mut [u8], state: State, price: Price) -> State
     requires { Roomy (length plan.now) kept.old state.ties }
-    ensures { Keeps plan.now kept.old state cost held result kept.new }
+    ensures { Keeps plan.now kept.old state price result kept.new }
 {
-    let n = plan.len();
-    let meter = state.meter;
-    let numbers = state.best;
-    let before = state.ties;
-    let ties = retie(plan, &mut kept[n..], before, numbers, cost, held);
-    let best = settle(plan, &mut kept[0..n], numbers, cost, held);
-    State { meter, best, ties }
+    let (best_plan, run) = kept.split_at_mut(plan.len());
+    let ties = retie(plan, run, state.ties, state.best, price);
+    let best = settle(plan, best_plan, state.best, price);
+    State {
+        best,
+        ties,
+        ..state
+    }
 }

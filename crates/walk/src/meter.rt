@@ -10,25 +10,24 @@ pub(crate) struct Meter {
     pub(crate) count: u32,
 }
 
-// Whether a node may be opened, with the meter as it is then.
+// What stops a walk: the budget, which so many nodes have spent.
 #[derive(Clone, Copy)]
-pub(crate) enum Admission {
-    Admitted(Meter),
-    Stopped(Meter),
+pub(crate) struct Spent {
+    pub(crate) opened: u32,
 }
 
 impl Meter {
-    // Asked once for every node, before anything else is done at it.
-    pub(crate) fn open(self) -> Admission
+    // The meter with one node more; asked once for every node, before anything else is done at it.
+    pub(crate) fn open(self) -> Result<Meter, Spent>
         ensures { result ≡ admit self }
     {
         if self.count < self.budget {
-            Admission::Admitted(Meter {
-                budget: self.budget,
+            Ok(Meter {
                 count: self.count + 1,
+                ..self
             })
         } else {
-            Admission::Stopped(self)
+            Err(Spent { opened: self.count })
         }
     }
 }

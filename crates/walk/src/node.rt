@@ -1,73 +1,53 @@
 // Opening a node: the meter, and steps 1 and 2 of 01, "The walk".
 //
-// A node's cost and held number travel beside its plan. What the walk keeps lies in one room: the best plan so far in front, and behind
-// it the plans that tie with it, as many as are asked for (kept). Their numbers travel with the meter.
+// A node's price travels beside its plan. What the walk keeps lies in one room: the best plan so far in front, and behind it the plans that
+// tie with it, as many as are asked for (kept). Their numbers travel with the meter.
 ghost use Rattle.std.specs.Prelude.{◌≡◌};
+ghost use Rattle.needed.specs.Rules.{hall_in};
 ghost use Rattle.walk.specs.Best.{is_closed};
-ghost use Rattle.walk.specs.Node.{Openable, Opens};
+ghost use Rattle.walk.specs.Node.{Node, Opens};
 
-use crate::kept::{BestSoFar, State, keep};
-use crate::meter::{Admission, Meter};
-use crate::rules::{Unmet, first_unmet};
+use crate::kept::{Price, State, keep};
+use crate::meter::Spent;
+use crate::rules::first_unmet;
+use needed::Coded;
 
-// What opening a node comes to: the walk stops; the node has no children; or it branches on the rule of this number.
+// What a node that was opened comes to: it has no children, or it branches on the rule of these codes. Two cases with names, where a state
+// beside an Option would leave the reader to tell why there is no rule.
 #[derive(Clone, Copy)]
-pub(crate) enum Opening {
-    Stopped(Meter),
+pub(crate) enum Opening<'a> {
     Leaf(State),
-    Branch(usize, State),
+    Branch(&'a [u16], State),
 }
 
-// The question of step 2.
-fn is_closed(numbers: BestSoFar, cost: u64, held: u32) -> bool
-    ensures { result ≡ is_closed numbers cost held }
+// The question of step 2: the best so far is at most as dear as the node, and each plan below it holds one device more.
+fn is_closed(best: Option<Price>, price: Price) -> bool
+    ensures { result ≡ is_closed best price }
 {
-    if !numbers.found {
-        return false;
+    match best {
+        Some(least) => least <= price,
+        None => false,
     }
-    if numbers.cost < cost {
-        return true;
-    }
-    if cost < numbers.cost {
-        return false;
-    }
-    numbers.held <= held
 }
 
 // All that is done at a node but going through the entries of its rule.
-pub(crate) fn open_node(
-    codes: &[u16; 16384],
-    starts: &[u16; 2001],
-    m: usize,
+pub(crate) fn open_node<'a>(
+    hall: &Coded<'a>,
     plan: &[u8],
     kept: &mut [u8],
     state: State,
-    cost: u64,
-    held: u32,
-) -> Opening
-    requires { Openable codes.now starts.now m plan.now kept.old state }
-    ensures { Opens codes.now starts.now m plan.now kept.old state cost held result kept.new }
+    price: Price,
+) -> Result<Opening<'a>, Spent>
+    requires { Node (hall_in hall.now) plan.now kept.old state price }
+    ensures { Opens (hall_in hall.now) plan.now kept.old state result kept.new }
 {
-    let meter = state.meter;
-    let best = state.best;
-    let ties = state.ties;
-    match meter.open() {
-        Admission::Stopped(end) => Opening::Stopped(end),
-        Admission::Admitted(next) => {
-            let opened = State {
-                meter: next,
-                best,
-                ties,
-            };
-            match first_unmet(codes, starts, m, plan) {
-                Unmet::AllMet => Opening::Leaf(keep(plan, kept, opened, cost, held)),
-                Unmet::Rule(r) => {
-                    if is_closed(best, cost, held) {
-                        return Opening::Leaf(opened);
-                    }
-                    Opening::Branch(r, opened)
-                }
-            }
-        }
+    let next = State {
+        meter: state.meter.open()?,
+        ..state
+    };
+    match first_unmet(hall, plan) {
+        None => Ok(Opening::Leaf(keep(plan, kept, next, price))),
+        Some(_) if is_closed(state.best, price) => Ok(Opening::Leaf(next)),
+        Some(rule) => Ok(Opening::Branch(rule, next)),
     }
 }

@@ -1,4 +1,5 @@
-// A plan in its room: one byte for each device, 0 free, 1 held at 1, 2 held at 0. A device is held and released in place.
+// A plan in its room: one byte for each device, 0 free, 1 held at 1, 2 held at 0, which are the marks of the plan room that C lends. A
+// device is held and released in place. That a code names a device of the plan is asked by each function: it is about both.
 ghost use Rattle.std.specs.Prelude.{◌≡◌, ◌/◌, ◌<◌, length, get_or};
 ghost use Rattle.hall.specs.Hall as hall;
 ghost use Rattle.sheet.specs.Coded.{entry_of};

@@ -1,7 +1,6 @@
 -- The theorems of the text. TextTable stands apart: it computes the rows of known texts. What reads back: TokensBack, WordsBack,
--- WrittenBack. What the code writes: ToldObstacles, TotalsKept, WrittenLines, WrittenSize, WrittenText, WrittenOnly.
+-- WrittenBack. What the code writes: TotalsKept, WrittenLines, WrittenSize, WrittenText, WrittenOnly.
 pub mod TextTable
-pub mod ToldObstacles
 pub mod TokensBack
 pub mod TotalsKept
 pub mod WordsBack

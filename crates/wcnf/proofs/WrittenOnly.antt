@@ -24,14 +24,13 @@ use Rattle.hall.proofs.Reasons.{decoded, verdict_only}
 use Rattle.hall.proofs.Refusals.{code_large, tells}
 use Rattle.refusals.specs.Contract.{fault_of, numbers_at}
 use Rattle.refusals.specs.declared.Refusal.{Refusal}
+use Rattle.refusals.specs.declared.Refused.{Refused}
+use Rattle.refusals.specs.declared.RoomRefusal.TheVariants.{BadSheet, ShortRoom}
+use Rattle.std.specs.Prelude.{Ok, Err}
 use Rattle.refusals.proofs.Only.{refusal_only}
 use Rattle.wcnf.specs.declared.Edition.{Edition}
-use Rattle.wcnf.specs.declared.Obstacle.{Obstacle}
-use Rattle.wcnf.specs.declared.Obstacle.TheVariants.{BadSheet, ShortRoom}
-use Rattle.wcnf.specs.declared.Written.{Written}
-use Rattle.wcnf.specs.declared.Written.TheVariants.{Text, Refused}
 use Rattle.wcnf.specs.Wcnf.{wcnf, Writing, text, bad_sheet, short_room, writing_by, writing_read, writing}
-use Rattle.wcnf.specs.Contract.{obstacle_numbers, numbers_of, numbers_written, room_after, Justified, Writes}
+use Rattle.wcnf.specs.Contract.{Obstacle, Written, obstacle_numbers, numbers_of, numbers_written, room_after, Justified, Writes}
 use Rattle.wcnf.proofs.WrittenSize.{text_fits}
 
 -- ── one answer, one room ──
@@ -50,10 +49,10 @@ obstacle_only ShortRoom (BadSheet l) i j e = absurd (small_code l j i (sym e))
 obstacle_only ShortRoom ShortRoom i j e = (refl, cc)
 
 pub numbers_injective : (r s : Written) → numbers_of r ≡ numbers_of s → r ≡ s
-numbers_injective (Text w) (Text v) e = ap Text (cc)
-numbers_injective (Text w) (Refused q j) e = absurd (omega (arith, obstacle_large q j _ (sym e)))
-numbers_injective (Refused o i) (Text v) e = absurd (omega (arith, obstacle_large o i _ e))
-numbers_injective (Refused o i) (Refused q j) e = let x = obstacle_only o q i j e in rw (x.0, x.1)
+numbers_injective (Ok w) (Ok v) e = ap Ok (cc)
+numbers_injective (Ok w) (Err q) e = absurd (omega (arith, obstacle_large q.kind q.place _ (sym e)))
+numbers_injective (Err o) (Ok v) e = absurd (omega (arith, obstacle_large o.kind o.place _ e))
+numbers_injective (Err o) (Err q) e = let x = obstacle_only o.kind q.kind o.place q.place e in ap Err (rw (x.0, x.1))
 
 module _ (ws : List ℤ) (edition : Edition) (before : List ℕ) where
   pub writes_only : (r r' : Written) (after after' : List ℕ) → Writes ws edition before r after → Writes ws edition before r' after' → (r ≡ r') × (after ≡ after')
@@ -62,12 +61,12 @@ module _ (ws : List ℤ) (edition : Edition) (before : List ℕ) where
 -- ── each answer where it is due ──
 module _ (ws : List ℤ) (edition : Edition) (before : List ℕ) (r : Written) (after : List ℕ) (x : Writes ws edition before r after) where
   -- a sheet is refused exactly for its reason
-  pub refused_where : (k : Refusal) (place : ℕ) → (r ≡ Refused (BadSheet k) place) ↔ Reason (fault_of k) place ws 200
+  pub refused_where : (k : Refusal) (place : ℕ) → (r ≡ Err (record { kind = BadSheet k; place = place })) ↔ Reason (fault_of k) place ws 200
   unfolding writing
   refused_where k place = (
     (λ e. subst (λ (r : Written). Justified ws edition (length before) r after) e x.reason),
     (λ reason.
-        numbers_injective r (Refused (BadSheet k) place)
+        numbers_injective r (Err (record { kind = BadSheet k; place = place }))
         (x.says ∙ ap (λ (y : Read Hall). numbers_written (writing_read edition (length before) y)) (verdict_only ws 200 (bad (fault_of k) place) reason))),
   )
 
@@ -77,16 +76,16 @@ module _ (ws : List ℤ) (edition : Edition) (before : List ℕ) (r : Written) (
     writing_is = ap (writing_read edition (length before)) (verdict_only ws 200 (got h (length ws)) (sheet, refl))
 
     -- the text of an accepted sheet is written wherever it fits
-    pub text_where : length (wcnf edition h) ≤ length before → (r ≡ Text (length (wcnf edition h))) × (after ≡ in_front (wcnf edition h) before)
+    pub text_where : length (wcnf edition h) ≤ length before → (r ≡ Ok (length (wcnf edition h))) × (after ≡ in_front (wcnf edition h) before)
     text_where fits =
         let is = writing_is ∙ ap (λ (b : Bool). writing_by b (wcnf edition h)) (le-ltb (length before) (length (wcnf edition h)) fits) in
-        (numbers_injective r (Text (length (wcnf edition h))) (x.says ∙ ap numbers_written is), x.room ∙ ap (λ (w : Writing). room_after w before) is)
+        (numbers_injective r (Ok (length (wcnf edition h))) (x.says ∙ ap numbers_written is), x.room ∙ ap (λ (w : Writing). room_after w before) is)
 
     -- 41 wherever it does not, with the length needed
-    pub short_where : length before < length (wcnf edition h) → (r ≡ Refused ShortRoom (length (wcnf edition h))) × (after ≡ before)
+    pub short_where : length before < length (wcnf edition h) → (r ≡ Err (record { kind = ShortRoom; place = length (wcnf edition h) })) × (after ≡ before)
     short_where short =
         let is = writing_is ∙ ap (λ (b : Bool). writing_by b (wcnf edition h)) (lt-ltb (length before) (length (wcnf edition h)) short) in
-        (numbers_injective r (Refused ShortRoom (length (wcnf edition h))) (x.says ∙ ap numbers_written is), x.room ∙ ap (λ (w : Writing). room_after w before) is)
+        (numbers_injective r (Err (record { kind = ShortRoom; place = length (wcnf edition h) })) (x.says ∙ ap numbers_written is), x.room ∙ ap (λ (w : Writing). room_after w before) is)
 
 -- ── what is to be written ──
 -- a text that goes to a room fits it
@@ -124,7 +123,7 @@ module _ (ws : List ℤ) (edition : Edition) (before after : List ℕ) where
     pub size : w ≡ length bytes
     pub room : after ≡ in_front bytes before
 
-  pub text_told : (w : ℕ) → Writes ws edition before (Text w) after → Told w
+  pub text_told : (w : ℕ) → Writes ws edition before (Ok w) after → Told w
   text_told w x = go (writing edition ws (length before)) refl x.says x.room
     where
       go : (y : Writing) → writing edition ws (length before) ≡ y → 0 ∷ w ∷ [] ≡ numbers_written y → after ≡ room_after y before → Told w
@@ -133,11 +132,11 @@ module _ (ws : List ℤ) (edition : Edition) (before after : List ℕ) where
       go (short_room n) is says room = absurd (let z : ◌≡◌ {A = ℕ} 0 41 = cc in omega arith)
 
   -- of a refusal the numbers are those of what was to be written, and the room is as it was
-  pub refused_told : (o : Obstacle) (place : ℕ) → Writes ws edition before (Refused o place) after
-      → (numbers_written (writing edition ws (length before)) ≡ obstacle_numbers o place) × (after ≡ before)
-  refused_told o place x = (sym x.says, go (writing edition ws (length before)) x.says x.room)
+  pub refused_told : (o : Refused Obstacle) → Writes ws edition before (Err o) after
+      → (numbers_written (writing edition ws (length before)) ≡ obstacle_numbers o.kind o.place) × (after ≡ before)
+  refused_told o x = (sym x.says, go (writing edition ws (length before)) x.says x.room)
     where
-      go : (y : Writing) → obstacle_numbers o place ≡ numbers_written y → after ≡ room_after y before → after ≡ before
-      go (text t) says room = absurd (omega (arith, obstacle_large o place _ says))
+      go : (y : Writing) → obstacle_numbers o.kind o.place ≡ numbers_written y → after ≡ room_after y before → after ≡ before
+      go (text t) says room = absurd (omega (arith, obstacle_large o.kind o.place _ says))
       go (bad_sheet f i) says room = room
       go (short_room n) says room = room

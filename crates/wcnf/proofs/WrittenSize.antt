@@ -21,11 +21,12 @@ use Rattle.typed.specs.Printing.{digits_of}
 use Rattle.typed.proofs.Printed.{digits_few}
 use Rattle.printing.specs.Lines.{spaced, line_end, printed_entries}
 use Rattle.rails.specs.Weighted.{top}
-use Rattle.rails.specs.Rails.{variable, in_variables, not_both, denials, pairs_from, denials_from, rule_clauses, encoded, clauses, total, charged}
+use Rattle.rails.specs.Rails.{variable, in_variables, not_both, denials, pairs_from, denials_from, rule_clauses, encoded, clauses}
 use Rattle.rails.proofs.Sizes.{top_twice, clause_number}
 use Rattle.wcnf.specs.declared.Edition.{Edition}
 use Rattle.wcnf.specs.declared.Edition.TheVariants.{Since2022, Before2022}
 use Rattle.wcnf.specs.Wcnf.{clause_line, clause_lines, first_line, wcnf}
+use Rattle.wcnf.proofs.TotalsKept.{total_most, charged_most}
 use Rattle.wcnf.proofs.WrittenLines.{clause_line_lem, one_literal, true_literal, false_literal, lines_append}
 
 -- ── digits ──
@@ -125,17 +126,6 @@ denials_size start v (c ∷ cs) few a =
     )
 
 -- ── the first line ──
-total_most : (cs : List ℕ) → Each (λ c. c ≤ 1000000000) cs → total cs ≤ 1000000000 * length cs
-unfolding total
-total_most [] a = omega arith
-total_most (c ∷ cs) a = let b = a.0 in omega (arith, total_most cs a.1)
-
-charged_most : (cs : List ℕ) → charged cs ≤ length cs
-unfolding charged
-charged_most [] = omega arith
-charged_most (zero ∷ cs) = omega (arith, charged_most cs)
-charged_most (suc c ∷ cs) = omega (arith, charged_most cs)
-
 three_numbers : (a b c : ℕ) → length (spaced digits_of (a ∷ b ∷ c ∷ [])) ≡ 3 + (length (digits_of a) + (length (digits_of b) + length (digits_of c)))
 unfolding spaced
 three_numbers a b c =

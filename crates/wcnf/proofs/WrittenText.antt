@@ -1,155 +1,138 @@
 -- From the lines of clauses to the contract of `write`.
 --
--- In order: the text of coded arrays in either edition (`since_puts`, `before_puts`); a refused sheet (`write_refused`); an
--- accepted sheet: its hall can be written from the arrays (`write_few`, `write_encodable`), its text fits our own room
--- (`text_within`), and is too long for the lent one (`write_short`) or goes there (`write_text`). Assumes nothing.
+-- In order: the text of a coded hall in either edition (`since_puts`, `before_puts`); a refused sheet (`write_refused`); an accepted
+-- sheet: its hall can be written from the arrays (`write_few`, `write_loaded`), and its text is too long for the lent room
+-- (`write_short`) or goes there (`write_text`). Assumes nothing.
 use mathlib.Core.Path.{◌≡◌, refl, sym, ◌∙◌, ap, subst}
 use mathlib.Core.Bool.{Bool}
-use mathlib.Core.List.{List, [], ◌∷◌}
+use mathlib.Core.List.{List, [], ◌∷◌, ◌++◌}
 use mathlib.Core.Option.{some}
-use Prim.Native.Nat.{ℕ, zero, suc, ◌+◌, ◌-◌, ◌*◌, ◌≤◌, ◌<◌}
-use native.Mathlib.Nat.{sub-zero}
+use Prim.Native.Nat.{ℕ, zero, suc, ◌+◌, ◌*◌, ◌≤◌, ◌<◌}
 use native.Mathlib.Omega.{arith}
-use lib.ListN.{length, take, replicate, length-replicate}
+use lib.ListN.{length, take, drop, replicate, length-take, length-replicate}
 use lib.Seq.{sets}
+use Rattle.std.specs.Prelude.{Result, Ok, Err, IsErrAnd}
+use Rattle.std.proofs.lemmas.Result.{err_from_is_err_and}
 use lib.IntN.{ℤ}
 use lib.Dec.{ltb}
 use borrow.Author.Tests.{lt-ltb, le-ltb}
 use Rattle.io.specs.Digits.{last_digits, IsDigitCount}
-use Rattle.lists.specs.Lists.{in_front}
 use Rattle.lists.specs.Bytes.{bytes}
 use Rattle.lists.proofs.InFront.{front_stands, sets_in_front}
-use Rattle.hall.specs.Hall.{Rule, Hall, leave_out}
-use Rattle.hall.proofs.LeftOut.{without_in_range}
+use Rattle.hall.specs.Hall.{Hall, leave_out}
 use Rattle.hall.proofs.Reasons.{Verdict, verdict}
-use Rattle.hall.proofs.Sums.{cost_at_most}
 use Rattle.refusals.specs.declared.Refusal.{Refusal}
+use Rattle.refusals.specs.declared.Refused.{Refused}
+use Rattle.refusals.specs.declared.RoomRefusal.TheVariants.{BadSheet, ShortRoom}
 use Rattle.sheet.specs.Coded.{rules_of}
-use Rattle.sheet.specs.declared.Sheet.{Sheet}
-use Rattle.sheet.specs.declared.Sheet.TheVariants as sheet
+use Rattle.sheet.specs.declared.Size.{Size}
 use Rattle.needed.specs.Contract.{ReadsNeeded}
-use Rattle.needed.proofs.Lying.{read_refused, Lies, read_lies}
+use Rattle.needed.specs.Loaded.{Loaded}
+use Rattle.needed.specs.Rules.{hall_in}
+use Rattle.needed.specs.declared.coded.Coded.{Coded}
+use Rattle.needed.proofs.Lying.{read_refused, Lies, read_lies, lies_front, lies_loaded}
 use Rattle.typed.specs.Printing.{digits_of}
+use Rattle.printing.specs.declared.Page.{Page}
 use Rattle.printing.specs.Lines.{line}
-use Rattle.printing.specs.Contract.{Puts}
+use Rattle.printing.specs.Contract.{Puts, PutsLine}
 use Rattle.printing.proofs.Digits.{decimal_is}
-use Rattle.printing.proofs.Putting.{puts_then, puts_length}
-use Rattle.rails.specs.Weighted.{top}
+use Rattle.printing.proofs.Putting.{puts_then}
+use Rattle.rails.specs.Weighted.{Clause, top}
 use Rattle.rails.specs.Rails.{encoded, clauses, variables}
 use Rattle.rails.proofs.Sizes.{top_twice, clause_number}
 use Rattle.rails.proofs.Encoding.{encodes}
 use Rattle.wcnf.specs.declared.Edition.{Edition}
-use Rattle.wcnf.specs.declared.Edition.TheVariants.{Since2022, Before2022}
-use Rattle.wcnf.specs.declared.Obstacle.TheVariants.{BadSheet, ShortRoom}
-use Rattle.wcnf.specs.declared.Written.TheVariants.{Text, Refused}
-use Rattle.wcnf.specs.Wcnf.{clause_lines, first_line, text_of, wcnf, Writing, writing_by, writing_read, writing}
+use Rattle.wcnf.specs.declared.Edition.TheVariants.{Before2022}
+use Rattle.wcnf.specs.Wcnf.{clause_lines, text_of, wcnf, Writing, writing_by, writing_read, writing}
 use Rattle.wcnf.specs.Format.{read_wcnf}
-use Rattle.wcnf.specs.Steps.{Encodable, Totalled}
-use Rattle.wcnf.specs.Contract.{numbers_written, room_after, Writes}
+use Rattle.wcnf.specs.Steps.{Totalled}
+use Rattle.wcnf.specs.Contract.{Obstacle, Written, numbers_written, room_after, Writes}
 use Rattle.wcnf.proofs.WrittenBack.{reads_back}
 use Rattle.wcnf.proofs.WrittenSize.{text_fits}
 
--- ── the text of coded arrays ──
+-- ── the text of a coded hall ──
 rules_length : (codes starts : List ℕ) (r left : ℕ) → length (rules_of codes starts r left) ≡ left
 unfolding rules_of
 rules_length codes starts r zero = refl
 rules_length codes starts r (suc left) = ap suc (rules_length codes starts (r + 1) left)
 
-module _ (edition : Edition) (costs codes starts : List ℕ) (m : ℕ) (before : List ℕ) (r : ℕ) (after : List ℕ) where
-  pub since_puts : edition ≡ Since2022 → Puts (clause_lines (bytes "h") (encoded (rules_of codes starts 0 m) costs)) 0 before r after
-      → Puts (text_of edition (length costs + length costs) (encoded (rules_of codes starts 0 m) costs)) 0 before r after
-  since_puts e p = rw e p
+module _ (edition : Edition) (h : Coded) (before after : Page) where
+  abbrev costs : List ℕ
+  costs = h.costs.now
 
-  pub before_puts : edition ≡ Before2022 → (sum number : ℕ) → Totalled costs sum number → (next : ℕ) (out : List ℕ)
-      → Puts (line (bytes "p wcnf") digits_of ((2 * length costs) ∷ (m + length costs + 2 * number) ∷ (2 * sum + 1) ∷ [])) 0 before next out
+  abbrev cs : List Clause
+  cs = encoded (hall_in h).rules costs
+
+  pub before_puts : edition ≡ Before2022 → (sum number : ℕ) → Totalled h.costs.now sum number → (next : Page)
+      → PutsLine (bytes "p wcnf") ((2 * length h.costs.now) ∷ (h.rules + length h.costs.now + 2 * number) ∷ (2 * sum + 1) ∷ []) before next
       → (k : ℕ) (text : List ℕ) → IsDigitCount 10 1 (2 * sum + 1) k → take k text ≡ last_digits 10 k (2 * sum + 1)
-      → Puts (clause_lines (take (k - 0) text) (encoded (rules_of codes starts 0 m) costs)) next out r after
-      → Puts (text_of edition (length costs + length costs) (encoded (rules_of codes starts 0 m) costs)) 0 before r after
-  before_puts e sum number t next out p k text few spelled q =
-      let rs = rules_of codes starts 0 m in
-      let cs = encoded rs costs in
+      → Puts (clause_lines (take k text) (encoded (hall_in h).rules h.costs.now)) next after
+      → Puts (text_of edition (variables (hall_in h)) (encoded (hall_in h).rules h.costs.now)) before after
+  before_puts e sum number t next p k text few spelled q =
+      let rs = (hall_in h).rules in
       let a : 2 * length costs ≡ length costs + length costs = omega arith in
-      let b : m + length costs + 2 * number ≡ length cs = omega (arith, clause_number rs costs, rules_length codes starts 0 m, t.above) in
+      let b : h.rules + length costs + 2 * number ≡ length cs = omega (arith, clause_number rs costs, rules_length h.codes.now h.starts.now 0 h.rules, t.above) in
       let c : 2 * sum + 1 ≡ top cs = omega (arith, top_twice rs costs, t.all) in
-      let start : take (k - 0) text ≡ digits_of (top cs) = ap (λ (i : ℕ). take i text) (sub-zero k) ∙ spelled ∙ decimal_is (2 * sum + 1) k few ∙ ap digits_of c in
-      let first : (2 * length costs) ∷ (m + length costs + 2 * number) ∷ (2 * sum + 1) ∷ [] ≡ (length costs + length costs) ∷ length cs ∷ top cs ∷ [] = rw (a, b, c) in
+      let start : take k text ≡ digits_of (top cs) = spelled ∙ decimal_is (2 * sum + 1) k few ∙ ap digits_of c in
+      let first : (2 * length costs) ∷ (h.rules + length costs + 2 * number) ∷ (2 * sum + 1) ∷ [] ≡ (length costs + length costs) ∷ length cs ∷ top cs ∷ [] = rw (a, b, c) in
       rw e
-      (puts_then (first_line (length costs + length costs) cs) (clause_lines (digits_of (top cs)) cs) 0 before next out r after
-      (subst (λ (ns : List ℕ). Puts (line (bytes "p wcnf") digits_of ns) 0 before next out) first p)
-      (subst (λ (s : List ℕ). Puts (clause_lines s cs) next out r after) start q))
+      (puts_then (subst (λ (ns : List ℕ). Puts (line (bytes "p wcnf") digits_of ns) before next) first p.puts)
+      (subst (λ (s : List ℕ). Puts (clause_lines s cs) next after) start q))
 
-module _ (ws : List ℤ) (edition : Edition) (costs codes starts costs' codes' starts' : List ℕ) (before : List ℕ) (s : Sheet)
+module _ {ws : List ℤ} (edition : Edition) {costs codes starts costs' codes' starts' : List ℕ} (before : List ℕ) {s : Result Size (Refused Refusal)}
     (d : ReadsNeeded ws 200 costs codes starts s costs' codes' starts') where
   -- ── a refused sheet ──
-  pub write_refused : (kind : Refusal) (place : ℕ) → s ≡ sheet.Refused kind place → Writes ws edition before (Refused (BadSheet kind) place) before
+  pub write_refused : (e : Refused Refusal) → s ≡ Err e → (o : Refused Obstacle) → o.place ≡ e.place → o.kind ≡ BadSheet e.kind
+      → (r : Written) → IsErrAnd r (λ x. x ≡ o) → Writes ws edition before r before
   unfolding writing
-  write_refused kind place e =
-      let is = ap (writing_read edition (length before)) (read_refused d e) in
-      record {
-        says = sym (ap numbers_written is);
+  write_refused e u o place kind r f =
+      let is = ap (writing_read edition (length before)) (read_refused d u) in
+      let same = err_from_is_err_and r f in
+      rw (same.1, same.2)
+      (record {
+        says = rw (place, kind) (sym (ap numbers_written is));
         room = sym (ap (λ (w : Writing). room_after w before) is);
-        reason = subst (Verdict ws 200) (read_refused d e) (verdict ws 200);
-      }
+        reason = rw (place, kind) (subst (Verdict ws 200) (read_refused d u) (verdict ws 200));
+      })
 
   -- ── an accepted sheet ──
-  module _ (n m : ℕ) (e : s ≡ sheet.Hall n m) where
-    lies : Lies ws 200 n m costs' codes' starts'
+  module _ {size : Size} (e : s ≡ Ok size) where
+    lies : Lies ws 200 size.devices size.rules costs' codes' starts'
     lies = read_lies d e
 
-    front : take n costs' ≡ lies.whole.costs
-    front = ap (λ (g : Hall). g.costs) lies.back
+    pub write_few : size.devices ≡ length (take size.devices costs')
+    write_few = let few = lies.few in omega (arith, length-take size.devices costs')
 
-    pub write_few : n ≤ length costs'
-    write_few = lies.few
+    pub write_loaded : Loaded (take size.devices costs') codes' starts' size.rules
+    write_loaded = lies_loaded lies
 
-    encodable : Encodable (take n costs') codes' starts' m
-    encodable =
-        let g = lies in
-        let ranges = g.sheet_of_lem.ranges in
-        let devices = ranges.devices in
-        let count = (without_in_range g.whole ranges).count in
-        record {
-          costs_lie = rw front (record { devices = devices; cheap = cost_at_most 1000000000 g.whole.costs ranges.cheap });
-          rules_lie = record { room = g.starts_room; each = λ r l. record { upto = g.laid.rise r l; within = g.laid.within r l } };
-          count = omega (arith, g.number);
-        }
+    written : List ℕ
+    written = wcnf edition lies.whole
 
-    -- the costs are lent as the part from 0 to n
-    pub write_encodable : Encodable (take (n - 0) costs') codes' starts' m
-    write_encodable = rw (sub-zero n) encodable
-
-    module _ (text : List ℕ) (blank : text ≡ replicate 100000 0) (size : ℕ) (text' : List ℕ)
-        (p : Puts (text_of edition (length (take (n - 0) costs') + length (take (n - 0) costs')) (encoded (rules_of codes' starts' 0 m) (take (n - 0) costs'))) 0 text size text') where
-      written : List ℕ
-      written = wcnf edition lies.whole
-
-      text_is : Puts written 0 text size text'
+    module _ (start end : Page) (at_front : start.at ≡ 0) (blank : start.room.now ≡ replicate 100000 0)
+        (p : Puts (text_of edition (length (take size.devices costs') + length (take size.devices costs')) (encoded (rules_of codes' starts' 0 size.rules) (take size.devices costs'))) start end) where
+      text_is : Puts written start end
       unfolding written wcnf clauses
       text_is =
-          let costs_are : take (n - 0) costs' ≡ lies.whole.costs = ap (λ (k : ℕ). take k costs') (sub-zero n) ∙ front in
-          let rules_are : rules_of codes' starts' 0 m ≡ leave_out lies.whole.rules = ap (λ (g : Hall). g.rules) lies.back in
-          subst (λ (rs : List Rule). Puts (text_of edition (variables lies.whole) (encoded rs lies.whole.costs)) 0 text size text') rules_are
-          (subst (λ (cs : List ℕ). Puts (text_of edition (length cs + length cs) (encoded (rules_of codes' starts' 0 m) cs)) 0 text size text') costs_are p)
+          let rules_are : rules_of codes' starts' 0 size.rules ≡ leave_out lies.whole.rules = ap (λ (g : Hall). g.rules) lies.back in
+          rw (rules_are, lies_front lies) at p
 
-      room_size : length text ≡ 100000
+      room_size : length start.room.now ≡ 100000
       room_size = ap length blank ∙ length-replicate {A = ℕ} 100000 0
 
       short : length written ≤ 98957
       unfolding written
       short = text_fits lies.sheet_of_lem edition
 
-      size_is : size ≡ length written
-      size_is = let e = text_is.ends in omega (arith, room_size, short)
-
-      pub text_within : size ≤ length text'
-      text_within = omega (arith, size_is, short, room_size, puts_length written 0 text size text' text_is)
+      size_is : end.at ≡ length written
+      size_is = let e = text_is.stores.ends in omega (arith, room_size, short)
 
       -- what is to be written for the sheet
       writing_is : writing edition ws (length before) ≡ writing_by (ltb (length before) (length written)) written
       unfolding writing written
       writing_is = ap (writing_read edition (length before)) lies.is
 
-      pub write_short : length before < size → Writes ws edition before (Refused ShortRoom size) before
+      pub write_short : length before < end.at → Writes ws edition before (Err (record { kind = ShortRoom; place = end.at })) before
       unfolding written
       write_short h =
           let t = lt-ltb (length before) (length written) (omega (arith, size_is)) in
@@ -164,22 +147,21 @@ module _ (ws : List ℤ) (edition : Edition) (costs codes starts costs' codes' s
       unfolding written
       back = reads_back edition lies.whole lies.sheet_of_lem.ranges
 
-      pub write_text : size ≤ length before → (r : ℕ) (after : List ℕ) → Puts (take (size - 0) text') 0 before r after → Writes ws edition before (Text size) after
-      write_text h r after q =
+      pub write_text : end.at ≤ length before → (part : List ℕ) → part ≡ take end.at end.room.now → Writes ws edition before (Ok end.at) (part ++ drop end.at before)
+      write_text h part q =
           let t = le-ltb (length before) (length written) (omega (arith, size_is)) in
           let is = writing_is ∙ ap (λ (b : Bool). writing_by b written) t in
-          let fits : length written ≤ length text = omega (arith, room_size, short) in
-          let front_is : take (size - 0) text' ≡ written =
-          ap (λ (k : ℕ). take k text') (sub-zero size ∙ size_is) ∙ ap (take (length written)) (text_is.leaves ∙ sets_in_front written text fits) ∙ front_stands written text in
-          let after_is : after ≡ in_front written before = q.leaves ∙ ap (sets before 0) front_is ∙ sets_in_front written before (omega (arith, size_is)) in
-          let bytes-are : take size after ≡ written = ap (λ (k : ℕ). take k after) size_is ∙ ap (take (length written)) after_is ∙ front_stands written before in
-          record {
-            says = ap (λ (k : ℕ). 0 ∷ k ∷ []) size_is ∙ sym (ap numbers_written is);
-            room = after_is ∙ sym (ap (λ (w : Writing). room_after w before) is);
+          let fits : length written ≤ length start.room.now = omega (arith, room_size, short) in
+          let front_is : part ≡ written =
+          q ∙ ap (λ (k : ℕ). take k end.room.now) size_is ∙ ap (take (length written)) (text_is.stores.leaves ∙ ap (λ (k : ℕ). sets start.room.now k written) at_front ∙ sets_in_front written start.room.now fits) ∙ front_stands written start.room.now in
+          rw (front_is, size_is)
+          (record {
+            says = sym (ap numbers_written is);
+            room = sym (ap (λ (w : Writing). room_after w before) is);
             reason = record {
               hall = lies.whole;
               sheet = lies.sheet_of_lem;
-              says = ap (read_wcnf edition) bytes-are ∙ back;
+              says = ap (read_wcnf edition) (front_stands written before) ∙ back;
               encodes = encodes lies.whole lies.sheet_of_lem.ranges;
             };
-          }
+          })

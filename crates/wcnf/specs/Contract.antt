@@ -1,33 +1,40 @@
--- The contracts of `numbers_of` and `write`: this paper's numbers for each case, and the room afterwards. 02, request 4.
+-- The contract of `write`: this paper's numbers for each case, and the room afterwards. 02, request 4.
 --
--- In order: the numbers of an answer and of what is written; the room; what an answer is given for, apart from the writer; the
--- contract of `write`. That of `numbers_of` is `Tells` of the sheet's reader, for `obstacle_numbers`. Definitions only.
-use Rattle.std.specs.Prelude.{◌≡◌, List, [], ◌∷◌, ℕ, ◌<◌, length, take, ℤ}
+-- In order: the kinds of refusal, and the numbers of an answer and of what is written; the room; what an answer is given for, apart from
+-- the writer; the contract of `write`. Definitions only.
+use Rattle.std.specs.Prelude.{◌≡◌, List, [], ◌∷◌, ℕ, ◌<◌, length, take, ℤ, Result, Ok, Err}
 use Rattle.std.proofs.Math.Option.{some}
 use Rattle.lists.specs.Lists.{in_front}
 use Rattle.hall.specs.Hall.{Hall}
 use Rattle.hall.specs.Ranges.{SheetOf}
 use Rattle.hall.specs.Reading.{refusal_numbers}
 use Rattle.hall.specs.Due.{Reason}
-use Rattle.refusals.specs.Contract.{fault_of, numbers_at}
+use Rattle.refusals.specs.Contract.{fault_of}
+use Rattle.refusals.specs.Rooms as rooms
+use Rattle.refusals.specs.declared.Refused.{Refused}
+use Rattle.refusals.specs.declared.RoomRefusal.{RoomRefusal}
+use Rattle.refusals.specs.declared.RoomRefusal.TheVariants.{BadSheet, ShortRoom}
 use Rattle.rails.specs.Rails.{clauses, variables, Encodes}
 use Rattle.wcnf.specs.declared.Edition.{Edition}
-use Rattle.wcnf.specs.declared.Obstacle.{Obstacle}
-use Rattle.wcnf.specs.declared.Obstacle.TheVariants.{BadSheet, ShortRoom}
-use Rattle.wcnf.specs.declared.Written.{Written}
-use Rattle.wcnf.specs.declared.Written.TheVariants.{Text, Refused}
 use Rattle.wcnf.specs.Wcnf.{wcnf, Writing, text, bad_sheet, short_room, writing}
 use Rattle.wcnf.specs.Format.{read_wcnf}
 
+-- the sheet's kinds of refusal, or a text room too short
+abbrev pub Obstacle : Type 0
+Obstacle = RoomRefusal 41
+
 -- the numbers of a refusal: the sheet's own, or "41 .., its place the length needed"
 abbrev pub obstacle_numbers : Obstacle → (place : ℕ) → List ℕ
-obstacle_numbers (BadSheet kind) place = numbers_at kind place
-obstacle_numbers ShortRoom place = 41 ∷ place ∷ []
+obstacle_numbers o place = rooms.numbers_of o place
+
+-- the length of the text, or what is refused, and where
+abbrev pub Written : Type 0
+Written = Result ℕ (Refused Obstacle)
 
 -- 0 and the length of the text, or the numbers of the refusal
 abbrev pub numbers_of : Written → List ℕ
-numbers_of (Text w) = 0 ∷ w ∷ []
-numbers_of (Refused o place) = obstacle_numbers o place
+numbers_of (Ok w) = 0 ∷ w ∷ []
+numbers_of (Err e) = obstacle_numbers e.kind e.place
 
 abbrev pub numbers_written : Writing → List ℕ
 numbers_written (text t) = 0 ∷ length t ∷ []
@@ -57,10 +64,13 @@ pub record RoomShort (ws : List ℤ) (edition : Edition) (room place : ℕ) : Ty
   pub short : room < place
 
 -- what an answer is given for
+abbrev pub RefusedFor : List ℤ → Edition → (room : ℕ) → Obstacle → (place : ℕ) → Type 0
+RefusedFor ws edition room (BadSheet kind) place = Reason (fault_of kind) place ws 200
+RefusedFor ws edition room ShortRoom place = RoomShort ws edition room place
+
 abbrev pub Justified : List ℤ → Edition → (room : ℕ) → Written → (after : List ℕ) → Type 0
-Justified ws edition room (Text w) after = TextWritten ws edition w after
-Justified ws edition room (Refused (BadSheet kind) place) after = Reason (fault_of kind) place ws 200
-Justified ws edition room (Refused ShortRoom place) after = RoomShort ws edition room place
+Justified ws edition room (Ok w) after = TextWritten ws edition w after
+Justified ws edition room (Err e) after = RefusedFor ws edition room e.kind e.place
 
 -- the contract of `write`: the sheet, the edition, the room before, the answer and the room afterwards
 pub record Writes (ws : List ℤ) (edition : Edition) (before : List ℕ) (r : Written) (after : List ℕ) : Type 0 where

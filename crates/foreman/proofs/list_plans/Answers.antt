@@ -7,8 +7,8 @@ use Rattle.foreman.proofs.list_plans.Goals as goal
 pub slice_bounds-list_sheet-end : goal.slice_bounds-list_sheet-end
 slice_bounds-list_sheet-end c = search read_within
 
-pub returns-in-Refused : goal.returns-in-Refused
-returns-in-Refused c = search lists_mistake
+pub returns-in-Err : goal.returns-in-Err
+returns-in-Err c = search lists_mistake
 
-pub returns-in-Words : goal.returns-in-Words
-returns-in-Words c = search lists_words
+pub returns-in-Ok : goal.returns-in-Ok
+returns-in-Ok c = search lists_words

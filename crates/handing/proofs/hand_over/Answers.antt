@@ -7,8 +7,8 @@ use Rattle.handing.proofs.hand_over.Goals as goal
 pub slice_bounds-hand_sheet-end : goal.slice_bounds-hand_sheet-end
 slice_bounds-hand_sheet-end c = search read_within
 
-pub returns-in-Refused : goal.returns-in-Refused
-returns-in-Refused c = search hands_mistake
+pub returns-in-Err : goal.returns-in-Err
+returns-in-Err c = search hands_mistake
 
-pub returns-in-Words : goal.returns-in-Words
-returns-in-Words c = search hands_words
+pub returns-in-Ok : goal.returns-in-Ok
+returns-in-Ok c = search hands_words

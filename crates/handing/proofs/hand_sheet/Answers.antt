@@ -6,15 +6,8 @@ use Rattle.handing.proofs.HandedText.{hands_text, hands_refused}
 use borrow.Author.Rules.{rules}
 use Rattle.handing.proofs.hand_sheet.Goals as goal
 
-pub slice_bounds-put_refused-end : goal.slice_bounds-put_refused-end
-slice_bounds-put_refused-end c =
-    let t = c.numbers_of-told.ensures in
-    let few = t.few in
-    let long = told_long _ _ _ _ t (omega arith) in
-    search rules
+pub returns-in-Ok : goal.returns-in-Ok
+returns-in-Ok c = search hands_text
 
-pub returns-in-Text : goal.returns-in-Text
-returns-in-Text c = search hands_text
-
-pub returns-in-Refused : goal.returns-in-Refused
-returns-in-Refused c = search hands_refused
+pub returns-in-Err : goal.returns-in-Err
+returns-in-Err c = search hands_refused

@@ -9,15 +9,14 @@ returns-then-room-run c = search puts_short
 pub loop-next-init : goal.loop-next-init
 loop-next-init c = search part_start
 
-pub returns-then-next-eq0 : goal.returns-then-next-eq0
-returns-then-next-eq0 c = search part_end
-
 pub overflow_add-at : goal.overflow_add-at
-overflow_add-at c =
-    omega (arith, part_place _ _ _ _ _ _ c.loop-next.invariant _ c.next_behind-next.ensures c.if-next-eq0.false)
+overflow_add-at c = omega (arith, part_place _ _ _ _ _ _ c.loop-next.invariant _ c.in-Some.ensures)
 
 pub loop-next-smaller : goal.loop-next-smaller
-loop-next-smaller c = search part_fewer
+loop-next-smaller c = search (part_fewer, c.in-Some.ensures)
 
 pub loop-next-preserved : goal.loop-next-preserved
-loop-next-preserved c = search part_more
+loop-next-preserved c = search (part_more, c.in-Some.ensures)
+
+pub returns : goal.returns
+returns c = search (part_end, c.in_default.ensures)

@@ -1,25 +1,19 @@
--- `stands_in` meets its contract, plan by plan (Standing). Assumes nothing.
-use mathlib.Core.Path.{refl}
+-- `stands_in` meets its contract: the chunks of the run are its plans (Chunks), of which one is equal (Standing). Assumes nothing.
+use mathlib.Core.Path.{◌≡◌, ◌∙◌}
+use Prim.Native.Nat.{◌<◌}
 use native.Mathlib.Omega.{arith}
 use borrow.Author.Rules.{rules}
-use lib.ListN.{length-take, length-drop}
-use Rattle.plans.proofs.Standing.{stands_none, stands_here, stands_on, stands_end}
+use lib.ListN.{length}
+use Rattle.std.proofs.lemmas.Iterator.Search.{any_from_yields_List}
+use Rattle.plans.proofs.Chunks.{plans_come}
+use Rattle.plans.proofs.Standing.{stands_none, stands_any}
 use Rattle.plans.proofs.stands_in.Goals as goal
 
-pub returns-then-n-eq0 : goal.returns-then-n-eq0
-returns-then-n-eq0 c = search stands_none
+pub returns-then-not-is_empty : goal.returns-then-not-is_empty
+returns-then-not-is_empty c =
+    let some : 0 < length c.args.plan.now = grind arith in
+    any_from_yields_List _ _ _ _ c.any.ensures.ran (plans_come _ _ some (search rules) (search rules)) (λ x b q k. search rules)
+    ∙ stands_any c.args.plan.now _
 
-pub loop-from-init : goal.loop-from-init
-loop-from-init c = (refl, search rules, search rules, refl)
-
-pub same-requires : goal.same-requires
-same-requires c = simp (length-take, length-drop) (omega arith)
-
-pub returns-then-same : goal.returns-then-same
-returns-then-same c = search stands_here
-
-pub loop-from-preserved : goal.loop-from-preserved
-loop-from-preserved c = (search rules, search rules, search rules, search stands_on)
-
-pub returns : goal.returns
-returns c = search stands_end
+pub returns-else-not-is_empty : goal.returns-else-not-is_empty
+returns-else-not-is_empty c = let none : length c.args.plan.now ≡ 0 = grind arith in search (rules, stands_none)

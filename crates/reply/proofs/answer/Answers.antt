@@ -7,8 +7,8 @@ use Rattle.reply.proofs.answer.Goals as goal
 pub slice_bounds-searched-end : goal.slice_bounds-searched-end
 slice_bounds-searched-end c = search read_within
 
-pub returns-in-Refused : goal.returns-in-Refused
-returns-in-Refused c = search replies_refused
+pub returns-in-Err : goal.returns-in-Err
+returns-in-Err c = search replies_refused
 
-pub returns-in-Words : goal.returns-in-Words
-returns-in-Words c = search replies_words
+pub returns-in-Ok : goal.returns-in-Ok
+returns-in-Ok c = search replies_words

@@ -1,25 +1,7 @@
--- `print_answer` meets its contract: for each case its lines are the definition's (Prints). Assumes nothing.
-use native.Mathlib.Omega.{arith}
-use Rattle.refusals.proofs.ToldNumbers.{told_long}
-use Rattle.reply.proofs.Prints.{prints_least, prints_none, prints_spent, prints_refused}
-use borrow.Author.Rules.{rules}
+-- `print_answer` meets its contract: what was found is put, or the line of its refusal (Prints). Assumes nothing.
+use Rattle.reply.proofs.Prints.{prints_found, prints_refused}
 use Rattle.reply.proofs.print_answer.Goals as goal
+use Rattle.reply.proofs.print_answer.Goals.{in-Ok, in-Err}
 
-pub slice_bounds-put_refused-end : goal.slice_bounds-put_refused-end
-slice_bounds-put_refused-end c =
-    let t = c.numbers_of-count.ensures in
-    let few = t.few in
-    let long = told_long _ _ _ _ t (omega arith) in
-    search rules
-
-pub returns-in-Least : goal.returns-in-Least
-returns-in-Least c = search prints_least
-
-pub returns-in-None : goal.returns-in-None
-returns-in-None c = search prints_none
-
-pub returns-in-Spent : goal.returns-in-Spent
-returns-in-Spent c = search prints_spent
-
-pub returns-in-Refused : goal.returns-in-Refused
-returns-in-Refused c = search prints_refused
+pub returns : goal.returns
+returns c = elim c.match-answer.branch [ in-Ok w ↦ rw w.page-is (search prints_found) | in-Err w ↦ rw w.page-is (search prints_refused) ]

@@ -1,39 +1,32 @@
--- `least_plans` meets its contract: each of its six ways out is a law of Calls. Assumes nothing.
-use mathlib.Core.Path.{◌≡◌, ◌∙◌, ap}
-use mathlib.Core.List.{List}
-use Prim.Native.Nat.{ℕ, ◌≤◌}
+-- `least_plans` meets its contract: each of its ways out is a law of Calls. Assumes nothing.
+use Prim.Native.Nat.{◌≤◌}
 use native.Mathlib.Omega.{arith}
-use lib.ListN.{length, replicate, length-replicate}
-use Rattle.tied.proofs.Calls.{call_many, call_small, call_end, call_listed, call_short, call_none, call_spent, call_refused}
+use Rattle.std.proofs.lemmas.Result.{err_from_is_err_and}
+use Rattle.tied.proofs.Calls.{handled, ended, call_many, call_small, call_end, call_listed, call_short}
 use Rattle.tied.proofs.least_plans.Goals as goal
 
--- the room of our own, as it was made
-long : {run : List ℕ} → run ≡ replicate 51200 0 → length run ≡ 51200
-long e = ap length e ∙ length-replicate {A = ℕ} 51200 0
+pub returns-in_err-found : goal.returns-in_err-found
+returns-in_err-found c =
+    let p = err_from_is_err_and c.from_residual.result c.from_residual.ensures.1 in
+    rw (p.1, p.2) (handled _ _ _ _ _ c.ties_of.ensures _ c.in_err-found.ensures.cases)
 
-pub returns-then-equal-gt256 : goal.returns-then-equal-gt256
-returns-then-equal-gt256 c = search call_many
+pub returns-then-number-gt256 : goal.returns-then-number-gt256
+returns-then-number-gt256 c = let u = c.in_ok-found.ensures.cases in search call_many
 
 pub overflow_mul-end : goal.overflow_mul-end
-overflow_mul-end c =
-    omega (arith, call_small _ _ c.args.room.now _ _ _ c.ties_of.ensures c.in-Best.is (omega arith))
+overflow_mul-end c = omega (arith, call_small _ _ c.args.room.now _ _ c.ties_of.ensures c.in_ok-found.ensures.cases c.in-Best.is (omega arith))
 
 pub slice_bounds-put_in_order-end : goal.slice_bounds-put_in_order-end
-slice_bounds-put_in_order-end c = let few : c.in-Best.equal ≤ 256 = omega arith in search call_end
+slice_bounds-put_in_order-end c = let u = c.in_ok-found.ensures.cases in let few : c.in-Best.number ≤ 256 = omega arith in search call_end
 
-pub returns-then-put_in_order : goal.returns-then-put_in_order
-returns-then-put_in_order c =
-    call_listed _ _ _ _ _ _ c.ties_of.ensures c.in-Best.is (omega arith) (long c.ties_room-run.ensures) c.put_in_order.ensures c.if-put_in_order.true
+pub returns-then-not-put_in_order : goal.returns-then-not-put_in_order
+returns-then-not-put_in_order c = let u = c.in_ok-found.ensures.cases in let few : c.in-Best.number ≤ 256 = omega arith in search call_short
 
-pub returns-else-put_in_order : goal.returns-else-put_in_order
-returns-else-put_in_order c =
-    call_short _ _ _ _ _ _ c.ties_of.ensures c.in-Best.is (omega arith) (long c.ties_room-run.ensures) c.put_in_order.ensures c.if-put_in_order.false
+pub returns-else-not-put_in_order : goal.returns-else-not-put_in_order
+returns-else-not-put_in_order c = let u = c.in_ok-found.ensures.cases in let few : c.in-Best.number ≤ 256 = omega arith in search call_listed
 
 pub returns-in-None : goal.returns-in-None
-returns-in-None c = search call_none
+returns-in-None c = ended _ _ _ _ _ c.ties_of.ensures c.in_ok-found.ensures.cases c.in-None.is
 
 pub returns-in-Spent : goal.returns-in-Spent
-returns-in-Spent c = search call_spent
-
-pub returns-in-Refused : goal.returns-in-Refused
-returns-in-Refused c = search call_refused
+returns-in-Spent c = ended _ _ _ _ _ c.ties_of.ensures c.in_ok-found.ensures.cases c.in-Spent.is

@@ -1,22 +1,27 @@
 -- `write` meets its contract: a refused sheet is told as it was read; of a hall the text is made, and is too long or goes to the
 -- room. Each is a law of WrittenText. Assumes nothing.
-use Rattle.wcnf.proofs.WrittenText.{write_refused, write_few, write_encodable, text_within, write_short, write_text}
+use mathlib.Core.Path.{refl}
+use native.Mathlib.Omega.{arith}
+use borrow.Author.Rules.{rules}
+use Rattle.refusals.proofs.Widened.{was_ok, was_err}
+use Rattle.wcnf.proofs.WrittenText.{write_refused, write_few, write_loaded, write_short, write_text}
 use Rattle.wcnf.proofs.write.Goals as goal
 
-pub slice_bounds-put_text-end : goal.slice_bounds-put_text-end
-slice_bounds-put_text-end c = search write_few
+pub returns-in_err-size : goal.returns-in_err-size
+returns-in_err-size c =
+    let e = was_err _ _ c.read.result c.in_err-size.ensures.variant c.in_err-size.ensures.cases in
+    write_refused _ _ c.read.ensures e.0 e.1 _ e.2.0 e.2.1 _ c.from_residual.ensures.1
 
-pub put_text-size-requires : goal.put_text-size-requires
-put_text-size-requires c = search write_encodable
+pub slice_bounds-hall-end : goal.slice_bounds-hall-end
+slice_bounds-hall-end c = let e = was_ok _ _ c.read.result _ c.in_ok-size.ensures.variant c.in_ok-size.ensures.cases in search write_few
 
-pub returns-then-out-size : goal.returns-then-out-size
-returns-then-out-size c = search write_short
+pub invariant_of-hall : goal.invariant_of-hall
+invariant_of-hall c = let e = was_ok _ _ c.read.result _ c.in_ok-size.ensures.variant c.in_ok-size.ensures.cases in record { loaded = search write_loaded }
 
-pub slice_bounds-put-end : goal.slice_bounds-put-end
-slice_bounds-put-end c = search text_within
+pub returns-then-out-length : goal.returns-then-out-length
+returns-then-out-length c = let e = was_ok _ _ c.read.result _ c.in_ok-size.ensures.variant c.in_ok-size.ensures.cases in search write_short
 
-pub returns-in-Refused : goal.returns-in-Refused
-returns-in-Refused c = search write_refused
-
-pub returns-else-out-size : goal.returns-else-out-size
-returns-else-out-size c = search write_text
+pub returns : goal.returns
+returns c =
+    let e = was_ok _ _ c.read.result _ c.in_ok-size.ensures.variant c.in_ok-size.ensures.cases in
+    write_text _ _ c.read.ensures e _ _ refl c.wcnf_room-text.ensures c.put_text.ensures (omega arith) _ (search rules)

@@ -5,42 +5,39 @@ use borrow.Author.Rules.{rules}
 use Rattle.dimacs.proofs.Scanning.{scanning_start, scanning_missing, scanning_end, scanning_bad, scanning_word, scanning_flaw, scanning_closes, scanning_enters}
 use Rattle.dimacs.proofs.clauses.scan.Goals as goal
 
-pub loop-mistake-init : goal.loop-mistake-init
-loop-mistake-init c = scanning_start _ _ c.requires
+pub loop-found-init : goal.loop-found-init
+loop-found-init c = scanning_start _ _ c.requires
 
-pub returns-then-closed-m : goal.returns-then-closed-m
-returns-then-closed-m c =
-    scanning_missing c.loop-mistake.invariant c.next_word.ensures c.in-End.is c.if-closed-m.true
+pub returns-in_err-found : goal.returns-in_err-found
+returns-in_err-found c =
+    let h = scanning_bad c.loop-found.invariant _ c.in_err-found.ensures in
+    search rules
 
-pub returns-in-End : goal.returns-in-End
-returns-in-End c =
-    scanning_end c.loop-mistake.invariant c.next_word.ensures c.in-End.is c.if-closed-m.false
+pub returns-in_err-judged : goal.returns-in_err-judged
+returns-in_err-judged c =
+    let h = scanning_flaw c.loop-found.invariant {found = c.in-Some.found} (search rules) (search rules) c.judge.ensures in
+    search (rules, h)
 
-pub returns-in-Bad : goal.returns-in-Bad
-returns-in-Bad c =
-    scanning_bad c.loop-mistake.invariant c.next_word.ensures c.in-Bad.is
+pub loop-found-smaller-in-Closes : goal.loop-found-smaller-in-Closes
+loop-found-smaller-in-Closes c =
+    let w = scanning_word c.loop-found.invariant {found = c.in-Some.found} (search rules) in
+    omega (arith, w.on, w.inside)
 
-pub judge-requires : goal.judge-requires
-judge-requires c = let g = c.loop-mistake.invariant in record { few = g.few; narrow = g.narrow; short = g.short }
+pub loop-found-preserved-in-Closes : goal.loop-found-preserved-in-Closes
+loop-found-preserved-in-Closes c =
+    scanning_closes c.loop-found.invariant {found = c.in-Some.found} (search rules) (search rules) c.judge.ensures c.args.declared.rules c.requires (search rules)
 
-pub returns-in-Bad-judge : goal.returns-in-Bad-judge
-returns-in-Bad-judge c =
-    scanning_flaw c.loop-mistake.invariant c.next_word.ensures c.in-Found.is (search rules) c.judge.ensures c.in-Bad-judge.is
+pub loop-found-smaller : goal.loop-found-smaller
+loop-found-smaller c =
+    let w = scanning_word c.loop-found.invariant {found = c.in-Some.found} (search rules) in
+    omega (arith, w.on, w.inside)
 
-pub loop-mistake-smaller-in-Closes : goal.loop-mistake-smaller-in-Closes
-loop-mistake-smaller-in-Closes c =
-    let f = scanning_word c.loop-mistake.invariant c.next_word.ensures c.in-Found.is in
-    omega (arith, f.on, f.inside)
+pub loop-found-preserved : goal.loop-found-preserved
+loop-found-preserved c =
+    scanning_enters c.loop-found.invariant {found = c.in-Some.found} (search rules) (search rules) c.judge.ensures c.args.declared.rules c.requires (search rules)
 
-pub loop-mistake-preserved-in-Closes : goal.loop-mistake-preserved-in-Closes
-loop-mistake-preserved-in-Closes c =
-    scanning_closes c.loop-mistake.invariant c.next_word.ensures c.in-Found.is (search rules) c.judge.ensures c.requires c.in-Closes.is
+pub returns-then-so_far-declared : goal.returns-then-so_far-declared
+returns-then-so_far-declared c = scanning_missing c.loop-found.invariant (search rules) c.if-so_far-declared.true
 
-pub loop-mistake-smaller : goal.loop-mistake-smaller
-loop-mistake-smaller c =
-    let f = scanning_word c.loop-mistake.invariant c.next_word.ensures c.in-Found.is in
-    omega (arith, f.on, f.inside)
-
-pub loop-mistake-preserved : goal.loop-mistake-preserved
-loop-mistake-preserved c =
-    scanning_enters c.loop-mistake.invariant c.next_word.ensures c.in-Found.is (search rules) c.judge.ensures c.requires c.in-Enters.is
+pub returns : goal.returns
+returns c = scanning_end c.loop-found.invariant (search rules) c.if-so_far-declared.false

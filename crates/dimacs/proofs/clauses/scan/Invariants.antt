@@ -3,8 +3,9 @@ use lib.ListN.{length}
 use Rattle.dimacs.proofs.Scanning.{Scanning}
 use Rattle.dimacs.proofs.clauses.scan.Given as goal
 
-abbrev pub invariant-loop-mistake : goal.invariant-loop-mistake
-invariant-loop-mistake l = Scanning l.text l.from l.n l.m l.limit l.at l.closed l.width l.head
+abbrev pub invariant-loop-found : goal.invariant-loop-found
+invariant-loop-found l =
+    Scanning l.text l.declared.end l.declared.variables l.declared.clauses l.limit l.at l.so_far.closed l.so_far.width l.so_far.head
 
-abbrev pub decreases-loop-mistake : goal.decreases-loop-mistake
-decreases-loop-mistake l = length l.text - l.at
+abbrev pub decreases-loop-found : goal.decreases-loop-found
+decreases-loop-found l = length l.text - l.at

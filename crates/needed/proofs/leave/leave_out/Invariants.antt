@@ -1,9 +1,5 @@
-use Prim.Native.Nat.{◌-◌}
 use Rattle.needed.proofs.Leaving.{Leaving}
 use Rattle.needed.proofs.leave.leave_out.Given as goal
 
 abbrev pub invariant-loop-r : goal.invariant-loop-r
 invariant-loop-r l = Leaving l.initial.codes l.initial.starts l.m l.codes l.starts l.stamps l.end l.to l.left l.r
-
-abbrev pub decreases-loop-r : goal.decreases-loop-r
-decreases-loop-r l = l.m - l.r

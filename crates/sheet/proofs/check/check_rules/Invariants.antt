@@ -1,10 +1,7 @@
-use Rattle.sheet.proofs.Counts.{RulesLeft}
+use mathlib.Core.Path.{◌≡◌}
+use Rattle.sheet.proofs.Runs.{rules_told}
 use Rattle.sheet.proofs.check.check_rules.Given as goal
 
--- Invariant: the rules that are left answer what all of them answer; each rule that is right leaves the rest of the run (`rules_on`).
-abbrev pub invariant-loop-left : goal.invariant-loop-left
-invariant-loop-left l = RulesLeft l.n l.m l.words l.at l.place l.left
-
--- Measure: the rules left.
-abbrev pub decreases-loop-left : goal.decreases-loop-left
-decreases-loop-left l = l.left
+-- Invariant: the rules that are left answer what all of them answer; each rule that is right leaves the rest of the run.
+abbrev pub invariant-loop-r : goal.invariant-loop-r
+invariant-loop-r l = rules_told l.n l.m l.r l.words l.place ≡ rules_told l.n l.m 0 l.words l.at

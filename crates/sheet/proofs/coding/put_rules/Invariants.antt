@@ -1,4 +1,3 @@
-use Prim.Native.Nat.{◌-◌}
 use Rattle.sheet.proofs.Putting.{Putting}
 use Rattle.sheet.proofs.coding.put_rules.Given as goal
 
@@ -6,7 +5,3 @@ use Rattle.sheet.proofs.coding.put_rules.Given as goal
 -- (`Putting`); writing one rule moves on to the next (`putting_more`).
 abbrev pub invariant-loop-r : goal.invariant-loop-r
 invariant-loop-r l = Putting l.n l.words l.m l.initial.codes l.initial.starts l.codes l.starts l.place l.first l.r
-
--- Measure: the rules left.
-abbrev pub decreases-loop-r : goal.decreases-loop-r
-decreases-loop-r l = l.m - l.r

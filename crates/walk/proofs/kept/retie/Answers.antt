@@ -2,11 +2,11 @@
 use Rattle.walk.proofs.Noting.{retie_lower, retie_equal, retie_higher}
 use Rattle.walk.proofs.kept.retie.Goals as goal
 
-pub returns-then-is_lower : goal.returns-then-is_lower
-returns-then-is_lower c = search retie_lower
+pub returns-in-Less : goal.returns-in-Less
+returns-in-Less c = search retie_lower
 
-pub returns-then-is_equal : goal.returns-then-is_equal
-returns-then-is_equal c = search retie_equal
+pub returns-in-Equal : goal.returns-in-Equal
+returns-in-Equal c = search retie_equal
 
-pub returns : goal.returns
-returns c = search retie_higher
+pub returns-in-Greater : goal.returns-in-Greater
+returns-in-Greater c = search retie_higher

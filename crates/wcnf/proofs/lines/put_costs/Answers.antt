@@ -1,16 +1,10 @@
 -- `put_costs` meets its contract: the denials of one device after the other (`costs_more`). Assumes nothing.
-use Rattle.printing.proofs.Putting.{left_start, left_length, left_end, left_more}
-use Rattle.wcnf.proofs.WrittenLines.{costs_more, costs_end}
+use Rattle.printing.proofs.Putting.{puts_nothing, puts_more}
+use Rattle.wcnf.proofs.WrittenLines.{costs_none, costs_more}
 use Rattle.wcnf.proofs.lines.put_costs.Goals as goal
 
 pub loop-device-init : goal.loop-device-init
-loop-device-init c = search left_start
+loop-device-init c = search (puts_nothing, costs_none)
 
 pub loop-device-preserved : goal.loop-device-preserved
-loop-device-preserved c = search (left_more, costs_more)
-
-pub shape_of-out : goal.shape_of-out
-shape_of-out c = search left_length
-
-pub returns : goal.returns
-returns c = search (left_end, costs_end)
+loop-device-preserved c = search (puts_more, costs_more)

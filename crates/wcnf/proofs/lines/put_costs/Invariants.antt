@@ -1,16 +1,9 @@
-use Prim.Native.Nat.{◌-◌}
-use mathlib.Core.List.{[]}
-use lib.ListN.{length, drop}
-use Rattle.printing.proofs.Putting.{Left}
+use Rattle.std.proofs.Common.{[], take}
+use Rattle.printing.specs.Contract.{Puts}
 use Rattle.rails.specs.Rails.{denials_from}
 use Rattle.wcnf.specs.Wcnf.{clause_lines}
 use Rattle.wcnf.proofs.lines.put_costs.Given as goal
 
--- Invariant: putting the lines that are left leaves what putting all of them leaves; putting a device's takes them off the rest
--- (`left_more`).
+-- Invariant: the denials so far were put.
 abbrev pub invariant-loop-device : goal.invariant-loop-device
-invariant-loop-device l = Left (clause_lines [] (denials_from l.device (drop l.device l.costs))) (clause_lines [] (denials_from 0 l.costs)) l.at l.initial.out l.next l.out
-
--- Measure: the devices left.
-abbrev pub decreases-loop-device : goal.decreases-loop-device
-decreases-loop-device l = length l.costs - l.device
+invariant-loop-device l = Puts (clause_lines [] (denials_from 0 (take l.device l.hall.costs.now))) l.initial.page l.page

@@ -2,8 +2,8 @@
 use Rattle.wcnf.proofs.WrittenLines.{free_puts, denials_put}
 use Rattle.wcnf.proofs.lines.put_denials.Goals as goal
 
-pub returns-then-cost-eq0 : goal.returns-then-cost-eq0
-returns-then-cost-eq0 c = search free_puts
+pub returns-then-cost-gt0 : goal.returns-then-cost-gt0
+returns-then-cost-gt0 c = search denials_put
 
-pub returns : goal.returns
-returns c = search denials_put
+pub returns-else-cost-gt0 : goal.returns-else-cost-gt0
+returns-else-cost-gt0 c = search free_puts

@@ -1,11 +1,9 @@
-use Prim.Native.Nat.{◌-◌}
-use Rattle.wcnf.proofs.WrittenLines.{Ruling}
+use Rattle.sheet.specs.Coded.{rules_of}
+use Rattle.printing.specs.Contract.{Puts}
+use Rattle.rails.specs.Rails.{rule_clauses}
+use Rattle.wcnf.specs.Wcnf.{clause_lines}
 use Rattle.wcnf.proofs.lines.put_rules.Given as goal
 
--- Invariant: putting the rules that are left leaves what putting all of them leaves.
+-- Invariant: the rules so far were put.
 abbrev pub invariant-loop-r : goal.invariant-loop-r
-invariant-loop-r l = Ruling l.start l.codes l.starts l.m l.at l.initial.out l.next l.out l.r
-
--- Measure: the rules left.
-abbrev pub decreases-loop-r : goal.decreases-loop-r
-decreases-loop-r l = l.m - l.r
+invariant-loop-r l = Puts (clause_lines l.start (rule_clauses (rules_of l.hall.codes.now l.hall.starts.now 0 l.r))) l.initial.page l.page
