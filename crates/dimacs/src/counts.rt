@@ -9,7 +9,8 @@ use crate::{Declared, Flaw};
 use refusals::{Refusal, Refused, Split};
 use typed::Mistake;
 
-// A count, with the places where its token starts and ends: as `typed::Found`, but of a number without a sign.
+// A count, with the places where its token starts and ends: as `typed::Found`, but of a number without a sign. A type parameter there for
+// this one use would be no plainer.
 #[derive(Clone, Copy)]
 struct Count {
     number: u32,

@@ -14,9 +14,8 @@ use Rattle.typed.specs.Text.{read_text}
 use Rattle.typed.specs.Answer.{Reads}
 use Rattle.typed.specs.declared.Mistake.{Mistake}
 use Rattle.typed.proofs.WordsRead.{read_words, read_refused}
-use Rattle.printing.specs.declared.Page.{Page}
-use Rattle.printing.specs.Contract.{PutsLine, InRoom}
-use Rattle.printing.proofs.InRoom.{Filled, in_room_as, line_in_room}
+use Rattle.printing.specs.Contract.{PrintsRefused, InRoom}
+use Rattle.printing.proofs.InRoom.{in_room_as, refused_in_room}
 use Rattle.foreman.specs.Printed.{printed_reading, printed_for}
 use Rattle.foreman.specs.Contract.{ListsSheet, ListsText}
 
@@ -28,11 +27,11 @@ module _ (typed : List ℕ) (words : List ℤ) (large : length words ≡ 16384) 
   lists x e h =
       in_room_as 230000 (printed_reading x) before r after (printed_for typed) (ap printed_reading (sym e) ∙ ap (λ (n : ℕ). printed_reading (read_text typed n)) large) h
 
-  pub lists_mistake : (e : Refused Mistake) (start end : Page) → PutsLine (bytes "refused") (text.mistake_code e.kind ∷ e.place ∷ []) start end
-      → Filled before start end r after → reading ≡ Err e → length before ≡ 230000 → ListsText typed before r after
-  lists_mistake e start end p f same size =
-      let h = line_in_room 230000 (bytes "refused") (text.mistake_code e.kind ∷ e.place ∷ []) before r after start end f size (omega arith) p in
-      lists (text.refused e.kind e.place) (read_refused typed words reading words' reads e same) h
+  pub lists_mistake : (e : Refused Mistake) → PrintsRefused (text.mistake_code e.kind ∷ e.place ∷ []) before r after → reading ≡ Err e → length before ≡ 230000
+      → ListsText typed before r after
+  lists_mistake e p same size =
+      lists (text.refused e.kind e.place) (read_refused typed words reading words' reads e same)
+      (refused_in_room 230000 (text.mistake_code e.kind ∷ e.place ∷ []) before r after size (omega arith) p)
 
   pub lists_words : (w : ℕ) → reading ≡ Ok w → ListsSheet (take (w - 0) words') before r after → ListsText typed before r after
   lists_words w e h = lists (text.got (take (w - 0) words')) (read_words typed words reading words' reads w e) h

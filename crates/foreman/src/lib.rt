@@ -11,7 +11,7 @@ ghost use Rattle.foreman.specs.Contract.{ListsSheet, ListsText};
 mod holds;
 
 use holds::put_plans;
-use printing::Page;
+use printing::{Page, print_refused};
 use refusals::Split;
 use tied::Tied;
 
@@ -65,10 +65,6 @@ pub fn list_plans(text: &[u8], out: &mut [u8; 230000]) -> usize
     let mut words = rooms::words_room();
     match typed::read(text, &mut words) {
         Ok(count) => list_sheet(&words[0..count], out),
-        Err(mistaken) => {
-            let mut page = Page { room: out, at: 0 };
-            page.put_refused(mistaken);
-            page.at
-        }
+        Err(mistaken) => print_refused(mistaken, out),
     }
 }

@@ -19,10 +19,9 @@ use Rattle.typed.specs.Text.{read_text}
 use Rattle.typed.specs.Answer.{Reads}
 use Rattle.typed.specs.declared.Mistake.{Mistake}
 use Rattle.typed.proofs.WordsRead.{read_words, read_refused}
-use Rattle.printing.specs.declared.Page.{Page}
 use Rattle.printing.specs.Lines.{refused_line}
-use Rattle.printing.specs.Contract.{PutsLine, InRoom}
-use Rattle.printing.proofs.InRoom.{Filled, in_room_as, line_in_room}
+use Rattle.printing.specs.Contract.{PrintsRefused, InRoom}
+use Rattle.printing.proofs.InRoom.{in_room_as, refused_in_room}
 use Rattle.wcnf.specs.Wcnf as wcnf
 use Rattle.wcnf.specs.Wcnf.{writing}
 use Rattle.wcnf.specs.Contract.{obstacle_numbers, numbers_written, Writes}
@@ -60,12 +59,12 @@ module _ (ws : List ℤ) (edition : Edition) (before : List ℕ) (size_is : leng
       go (wcnf.bad_sheet f i) is says = ap refused_line (sym says) ∙ ap handed_writing is
       go (wcnf.short_room n) is says = ap refused_line (sym says) ∙ ap handed_writing is
 
-  pub hands_refused : (o : Refused (RoomRefusal 41)) → w ≡ Err o → (start end : Page) → PutsLine (bytes "refused") (obstacle_numbers o.kind o.place) start end
-      → length (obstacle_numbers o.kind o.place) ≤ 3 → (r : ℕ) (after : List ℕ) → Filled between start end r after → HandsSheet ws edition before r after
-  hands_refused o e start end p few r after filled =
+  pub hands_refused : (o : Refused (RoomRefusal 41)) → w ≡ Err o → (r : ℕ) (after : List ℕ) → PrintsRefused (obstacle_numbers o.kind o.place) between r after
+      → HandsSheet ws edition before r after
+  hands_refused o e r after p =
       let same = (refused_told ws edition before between o (subst (λ (r : Result ℕ (Refused (RoomRefusal 41))). Writes ws edition before r between) e x)).1 in
       in_room_as 100000 (refused_line (obstacle_numbers o.kind o.place)) before r after (handed_sheet edition ws) (refusal_line o e)
-      (line_in_room 100000 (bytes "refused") (obstacle_numbers o.kind o.place) before r after start end (rw same at filled) size_is (omega arith) p)
+      (refused_in_room 100000 (obstacle_numbers o.kind o.place) before r after size_is (omega arith) (rw same at p))
 
 -- ── a typed text ──
 module _ (typed : List ℕ) (edition : Edition) (words : List ℤ) (large : length words ≡ 16384) (reading : Result ℕ (Refused Mistake)) (words' : List ℤ) (reads : Reads typed words reading words')
@@ -75,11 +74,11 @@ module _ (typed : List ℕ) (edition : Edition) (words : List ℤ) (large : leng
   hands x e h =
       in_room_as 100000 (handed_reading edition x) before r after (handed_for edition typed) (ap (handed_reading edition) (sym e) ∙ ap (λ (n : ℕ). handed_reading edition (read_text typed n)) large) h
 
-  pub hands_mistake : (e : Refused Mistake) (start end : Page) → PutsLine (bytes "refused") (text.mistake_code e.kind ∷ e.place ∷ []) start end
-      → Filled before start end r after → reading ≡ Err e → length before ≡ 100000 → Hands typed edition before r after
-  hands_mistake e start end p f same size =
-      let h = line_in_room 100000 (bytes "refused") (text.mistake_code e.kind ∷ e.place ∷ []) before r after start end f size (omega arith) p in
-      hands (text.refused e.kind e.place) (read_refused typed words reading words' reads e same) h
+  pub hands_mistake : (e : Refused Mistake) → PrintsRefused (text.mistake_code e.kind ∷ e.place ∷ []) before r after → reading ≡ Err e → length before ≡ 100000
+      → Hands typed edition before r after
+  hands_mistake e p same size =
+      hands (text.refused e.kind e.place) (read_refused typed words reading words' reads e same)
+      (refused_in_room 100000 (text.mistake_code e.kind ∷ e.place ∷ []) before r after size (omega arith) p)
 
   pub hands_words : (w : ℕ) → reading ≡ Ok w → HandsSheet (take (w - 0) words') edition before r after → Hands typed edition before r after
   hands_words w e h = hands (text.got (take (w - 0) words')) (read_words typed words reading words' reads w e) h

@@ -4,7 +4,7 @@
 ghost use Rattle.std.specs.Prelude.{◌≡◌};
 ghost use Rattle.handing.specs.Contract.{chosen, HandsSheet, Hands};
 
-use printing::Page;
+use printing::print_refused;
 use wcnf::Edition;
 
 // The edition that a program's arguments ask for, by how many they are, the program's name among them, and the first behind the name: none
@@ -26,11 +26,7 @@ fn hand_sheet(words: &[i32], edition: Edition, out: &mut [u8; 100000]) -> usize
 {
     match wcnf::write(words, edition, out) {
         Ok(size) => size,
-        Err(obstacle) => {
-            let mut page = Page { room: out, at: 0 };
-            page.put_refused(obstacle);
-            page.at
-        }
+        Err(obstacle) => print_refused(obstacle, out),
     }
 }
 
@@ -41,10 +37,6 @@ pub fn hand_over(text: &[u8], edition: Edition, out: &mut [u8; 100000]) -> usize
     let mut words = rooms::words_room();
     match typed::read(text, &mut words) {
         Ok(count) => hand_sheet(&words[0..count], edition, out),
-        Err(mistaken) => {
-            let mut page = Page { room: out, at: 0 };
-            page.put_refused(mistaken);
-            page.at
-        }
+        Err(mistaken) => print_refused(mistaken, out),
     }
 }

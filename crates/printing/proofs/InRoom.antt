@@ -9,9 +9,9 @@ use lib.ListN.{length, length-take}
 use Rattle.lists.specs.Lists.{in_front}
 use Rattle.lists.proofs.InFront.{front_stands, rest_stays, sets_in_front}
 use Rattle.typed.specs.Printing.{digits_of}
-use Rattle.printing.specs.Lines.{line}
+use Rattle.printing.specs.Lines.{line, refused_line}
 use Rattle.printing.specs.declared.Page.{Page}
-use Rattle.printing.specs.Contract.{Stores, Puts, PutsLine, InRoom}
+use Rattle.printing.specs.Contract.{Stores, Puts, PutsLine, PrintsRefused, InRoom}
 
 -- a page was made of a whole room, and at its end r is its place and after its room
 pub record Filled (before : List ℕ) (start end : Page) (r : ℕ) (after : List ℕ) : Type 0 where
@@ -21,10 +21,8 @@ pub record Filled (before : List ℕ) (start end : Page) (r : ℕ) (after : List
   pub leaves : after ≡ end.room.now
 
 module _ (size : ℕ) (lines before : List ℕ) (r : ℕ) (after : List ℕ) where
-  pub put_in_room : (start end : Page) → Filled before start end r after → length before ≡ size → length lines ≤ size → Puts lines start end
-      → InRoom size lines before r after
-  put_in_room start end f size_is fits p =
-      let stores : Stores lines 0 before r after = rw (f.ends, f.leaves, ← f.begins, ← f.lent) p.stores in
+  pub stored_in_room : length before ≡ size → length lines ≤ size → Stores lines 0 before r after → InRoom size lines before r after
+  stored_in_room size_is fits stores =
       let says : r ≡ length lines = omega (arith, stores.ends) in
       let room : after ≡ in_front lines before = stores.leaves ∙ sets_in_front lines before (omega arith) in
       record {
@@ -35,6 +33,10 @@ module _ (size : ℕ) (lines before : List ℕ) (r : ℕ) (after : List ℕ) whe
         front = rw (says, room) (front_stands lines before);
         rest = rw (says, room) (rest_stays lines before);
       }
+
+  pub put_in_room : (start end : Page) → Filled before start end r after → length before ≡ size → length lines ≤ size → Puts lines start end
+      → InRoom size lines before r after
+  put_in_room start end f size_is fits p = stored_in_room size_is fits (rw (f.ends, f.leaves, ← f.begins, ← f.lent) p.stores)
 
   pub in_room_as : (same : List ℕ) → lines ≡ same → InRoom size lines before r after → InRoom size same before r after
   in_room_as same e h = subst (λ (l : List ℕ). InRoom size l before r after) e h
@@ -47,6 +49,11 @@ pub line_in_room : (size : ℕ) (word numbers before : List ℕ) (r : ℕ) (afte
     → InRoom size (line word digits_of numbers) before r after
 line_in_room size word numbers before r after start end f size_is fits p =
     put_in_room size (line word digits_of numbers) before r after start end f size_is (omega (arith, p.short)) p.puts
+
+-- the line of a refusal alone
+pub refused_in_room : (size : ℕ) (numbers before : List ℕ) (r : ℕ) (after : List ℕ) → length before ≡ size → 71 ≤ size → PrintsRefused numbers before r after
+    → InRoom size (refused_line numbers) before r after
+refused_in_room size numbers before r after size_is long p = stored_in_room size (refused_line numbers) before r after size_is (let few = p.short in omega arith) p.stores
 
 pub in_room_only : (size : ℕ) (lines before : List ℕ) (r r' : ℕ) (after after' : List ℕ) → InRoom size lines before r after
     → InRoom size lines before r' after' → (r ≡ r') × (after ≡ after')

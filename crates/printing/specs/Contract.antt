@@ -7,7 +7,7 @@ use Rattle.std.proofs.lemmas.List.Edits.{sets}
 use Rattle.lists.specs.Lists.{in_front}
 use Rattle.typed.specs.Printing.{digits_of}
 use Rattle.printing.specs.declared.Page.{Page}
-use Rattle.printing.specs.Lines.{line}
+use Rattle.printing.specs.Lines.{line, refused_line}
 
 -- the smaller of the number of bytes and what is left of the room from a place on
 abbrev pub stored : (bytes at room : ℕ) → ℕ
@@ -28,6 +28,11 @@ pub record Puts (bytes : List ℕ) (before after : Page) : Type 0 where
 pub record PutsLine (word numbers : List ℕ) (before after : Page) : Type 0 where
   pub puts : Puts (line word digits_of numbers) before after
   pub short : length (line word digits_of numbers) ≤ length word + 21 * length numbers + 1
+
+-- the line of a refusal was stored so at the front of a room; it has at most three numbers, and so at most 71 bytes
+pub record PrintsRefused (numbers before : List ℕ) (r : ℕ) (after : List ℕ) : Type 0 where
+  pub stores : Stores (refused_line numbers) 0 before r after
+  pub short : length (refused_line numbers) ≤ 71
 
 -- lines stand in front of a room of so many bytes: r is their length, which always fits; they are the room's first r bytes, and
 -- the rest is as it was

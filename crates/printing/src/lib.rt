@@ -9,7 +9,7 @@ ghost use Rattle.std.specs.Prelude.{◌++◌, ◌≤◌, length};
 ghost use Rattle.lists.specs.Bytes.{bytes};
 ghost use Rattle.typed.specs.Printing.{digits_of};
 ghost use Rattle.printing.specs.Lines.{spaced, line_end, hold_line};
-ghost use Rattle.printing.specs.Contract.{Stores, Puts, PutsLine};
+ghost use Rattle.printing.specs.Contract.{Stores, Puts, PutsLine, PrintsRefused};
 
 mod held;
 
@@ -79,8 +79,7 @@ impl Page<'_> {
         self.close_line();
     }
 
-    // The line of a refusal, of whichever reader: it has at most three numbers. Who prints a refusal alone makes a page for it, in three
-    // lines: one function more for these would be one contract more for the same line.
+    // The line of a refusal, of whichever reader: it has at most three numbers.
     #[tactic(auto, using(refusals::proofs::ToldNumbers::told_front))]
     pub fn put_refused<K: Kind>(&mut self, refused: Refused<K>)
         ensures line { PutsLine (bytes "refused") (K.told refused.kind refused.place) self.old self.new }
@@ -99,4 +98,13 @@ impl Page<'_> {
         put_devices(plan, self);
         self.close_line();
     }
+}
+
+// The line of a refusal alone, at the front of a room; the place behind it is returned.
+pub fn print_refused<K: Kind>(refused: Refused<K>, room: &mut [u8]) -> usize
+    ensures { PrintsRefused (K.told refused.kind refused.place) room.old result room.new }
+{
+    let mut page = Page { room, at: 0 };
+    page.put_refused(refused);
+    page.at
 }

@@ -14,9 +14,8 @@ use Rattle.typed.specs.Text.{read_text}
 use Rattle.typed.specs.Answer.{Reads}
 use Rattle.typed.specs.declared.Mistake.{Mistake}
 use Rattle.typed.proofs.WordsRead.{read_words, read_refused}
-use Rattle.printing.specs.declared.Page.{Page}
-use Rattle.printing.specs.Contract.{PutsLine, InRoom}
-use Rattle.printing.proofs.InRoom.{Filled, in_room_as, line_in_room}
+use Rattle.printing.specs.Contract.{PrintsRefused, InRoom}
+use Rattle.printing.proofs.InRoom.{in_room_as, refused_in_room}
 use Rattle.reply.specs.Printed.{printed_reading, printed_for}
 use Rattle.reply.specs.Contract.{Searched, Replies}
 
@@ -31,8 +30,8 @@ module _ (typed : List ℕ) (words : List ℤ) (large : length words ≡ 16384) 
   pub replies_words : (w : ℕ) → reading ≡ Ok w → Searched (take (w - 0) words') before r after → Replies typed before r after
   replies_words w e h = replies (text.got (take (w - 0) words')) (read_words typed words reading words' reads w e) h
 
-  pub replies_refused : (e : Refused Mistake) (start end : Page) → PutsLine (bytes "refused") (text.mistake_code e.kind ∷ e.place ∷ []) start end
-      → Filled before start end r after → reading ≡ Err e → length before ≡ 1024 → Replies typed before r after
-  replies_refused e start end p f same size =
-      let h = line_in_room 1024 (bytes "refused") (text.mistake_code e.kind ∷ e.place ∷ []) before r after start end f size (omega arith) p in
-      replies (text.refused e.kind e.place) (read_refused typed words reading words' reads e same) h
+  pub replies_refused : (e : Refused Mistake) → PrintsRefused (text.mistake_code e.kind ∷ e.place ∷ []) before r after → reading ≡ Err e → length before ≡ 1024
+      → Replies typed before r after
+  replies_refused e p same size =
+      replies (text.refused e.kind e.place) (read_refused typed words reading words' reads e same)
+      (refused_in_room 1024 (text.mistake_code e.kind ∷ e.place ∷ []) before r after size (omega arith) p)

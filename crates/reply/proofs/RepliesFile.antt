@@ -17,10 +17,9 @@ use Rattle.dimacs.specs.File.{flaw_numbers, Parsed, refused, file, read_file}
 use Rattle.dimacs.specs.Contract.{filed_of, room_after, Files}
 use Rattle.dimacs.specs.declared.Flaw.{Flaw}
 use Rattle.dimacs.proofs.Only.{numbers_injective}
-use Rattle.printing.specs.declared.Page.{Page}
 use Rattle.printing.specs.Lines.{refused_line}
-use Rattle.printing.specs.Contract.{PutsLine, InRoom}
-use Rattle.printing.proofs.InRoom.{Filled, in_room_as, line_in_room}
+use Rattle.printing.specs.Contract.{PrintsRefused, InRoom}
+use Rattle.printing.proofs.InRoom.{in_room_as, refused_in_room}
 use Rattle.reply.specs.Printed.{printed_search, printed_file, printed_for_file}
 use Rattle.reply.specs.Contract.{Searched, RepliesFile}
 
@@ -61,8 +60,8 @@ module _ (text : List ℕ) (words₀ : List ℤ) (large : length words₀ ≡ 16
   pub replies_file_words : (w : ℕ) → filed ≡ Ok w → Searched (take (w - 0) words') before r after → RepliesFile text before r after
   replies_file_words w e h = replies (printed_search (take (w - 0) words')) (lines_of_words text words₀ filed words' files w e) h
 
-  pub replies_file_refused : (f : Refused Flaw) (start end : Page) → filed ≡ Err f → PutsLine (bytes "refused") (flaw_numbers f.kind f.place) start end
-      → length (flaw_numbers f.kind f.place) ≤ 3 → Filled before start end r after → length before ≡ 1024 → RepliesFile text before r after
-  replies_file_refused f start end e p few filled size =
+  pub replies_file_refused : (f : Refused Flaw) → filed ≡ Err f → PrintsRefused (flaw_numbers f.kind f.place) before r after → length before ≡ 1024
+      → RepliesFile text before r after
+  replies_file_refused f e p size =
       replies (refused_line (flaw_numbers f.kind f.place)) (lines_of_refusal text words₀ filed words' files f e)
-      (line_in_room 1024 (bytes "refused") (flaw_numbers f.kind f.place) before r after start end filled size (omega arith) p)
+      (refused_in_room 1024 (flaw_numbers f.kind f.place) before r after size (omega arith) p)

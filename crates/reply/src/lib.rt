@@ -7,7 +7,7 @@
 ghost use Rattle.std.specs.Prelude.{Ok};
 ghost use Rattle.reply.specs.Contract.{PutsAnswer, Prints, Searched, Replies, RepliesFile};
 
-use printing::Page;
+use printing::{Page, print_refused};
 use refusals::{Refusal, Refused};
 use search::Answer;
 
@@ -58,11 +58,7 @@ pub fn answer(text: &[u8], out: &mut [u8; 1024]) -> usize
     let mut words = rooms::words_room();
     match typed::read(text, &mut words) {
         Ok(count) => searched(&words[0..count], out),
-        Err(mistaken) => {
-            let mut page = Page { room: out, at: 0 };
-            page.put_refused(mistaken);
-            page.at
-        }
+        Err(mistaken) => print_refused(mistaken, out),
     }
 }
 
@@ -73,10 +69,6 @@ pub fn answer_file(text: &[u8], out: &mut [u8; 1024]) -> usize
     let mut words = rooms::words_room();
     match dimacs::read(text, &mut words) {
         Ok(length) => searched(&words[0..length], out),
-        Err(flawed) => {
-            let mut page = Page { room: out, at: 0 };
-            page.put_refused(flawed);
-            page.at
-        }
+        Err(flawed) => print_refused(flawed, out),
     }
 }
