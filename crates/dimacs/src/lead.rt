@@ -4,7 +4,7 @@ ghost use Rattle.dimacs.specs.File.{line_byte, spot_after, lead_length};
 ghost use Rattle.dimacs.specs.declared.lead.Spot.TheVariants.{LineStart};
 
 // Where a byte of a file leads: to the start of a line, to separators behind one, into a comment, or to the first token.
-#[derive(Clone, Copy, PartialEq, Eq)]
+#[derive(Clone, Copy)]
 pub(crate) enum Spot {
     LineStart,
     Blank,
@@ -23,16 +23,27 @@ fn line_byte(b: u8) -> Spot
     }
 }
 
-// Where a byte leads from a spot.
+// Where a byte leads from a spot. By the spot first: with a `match` of the pair a file of comment lines takes a quarter more time.
 fn spot_after(spot: Spot, b: u8) -> Spot
     ensures { result ≡ spot_after spot b }
 {
-    match (spot, b) {
-        (Spot::LineStart, b'c') => Spot::Comment,
-        (Spot::LineStart | Spot::Blank, _) => line_byte(b),
-        (Spot::Comment, b'\n') => Spot::LineStart,
-        (Spot::Comment, _) => Spot::Comment,
-        (Spot::TokenStart, _) => Spot::TokenStart,
+    match spot {
+        Spot::LineStart => {
+            if b == b'c' {
+                Spot::Comment
+            } else {
+                line_byte(b)
+            }
+        }
+        Spot::Blank => line_byte(b),
+        Spot::Comment => {
+            if b == b'\n' {
+                Spot::LineStart
+            } else {
+                Spot::Comment
+            }
+        }
+        Spot::TokenStart => Spot::TokenStart,
     }
 }
 
@@ -43,7 +54,7 @@ pub(crate) fn lead_end(text: &[u8]) -> usize
     let mut spot = Spot::LineStart;
     for (i, b) in text.iter().enumerate() {
         spot = spot_after(spot, *b);
-        if spot == Spot::TokenStart {
+        if let Spot::TokenStart = spot {
             return i;
         }
     }

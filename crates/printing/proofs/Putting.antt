@@ -1,20 +1,19 @@
 -- Bytes put on a page: a copy into its room, one run behind another, a number, and the numbers of a line.
 --
--- In order: how many bytes of two runs have place (`stored_then`); stores behind a room's end are left out (`sets_behind`), so that
--- those which have place are all that is copied (`copied`, `no_place`); one run of stores behind another (`stores_then`), and so on a
+-- In order: how many bytes of two runs have place (`stored_then`); stores behind a room's end are left out (`sets_behind`); a copy, byte
+-- by byte (`copy_more`, `copy_end`); one run of stores behind another (`stores_then`), and so on a
 -- page (`puts_then`, `puts_more`); nothing put (`puts_nothing`); a number behind what stands in front of it (`number_puts`); items behind
 -- blanks, one list behind another (`spaced_append`), and so no number (`numbers_none`) and one more (`numbers_more`). Assumes nothing.
 use mathlib.Core.Path.{◌≡◌, refl, sym, ◌∙◌, ap}
 use mathlib.Core.Bool.{Bool, true, false}
 use mathlib.Core.List.{List, [], ◌∷◌, ◌++◌, append_assoc, append-nil}
-use Prim.Native.Nat.{ℕ, min, suc, ◌+◌, ◌-◌, ◌≤◌, ◌<◌}
+use Prim.Native.Nat.{ℕ, suc, ◌+◌, ◌-◌, ◌≤◌, ◌<◌}
 use native.Mathlib.Numerals.{add-one}
 use native.Mathlib.Omega.{arith}
-use lib.ListN.{length, get_or, take, drop, length-append, length-drop, take-append-drop, length-take}
-use lib.Seq.{set_out, sets, length-sets, sets-eq, take-suc, drop-drop}
+use lib.ListN.{length, get_or, take, drop, set, length-append, length-drop}
+use lib.Seq.{set_out, sets, length-sets, take-suc, drop-cons}
 use lib.Dec.{leb}
 use borrow.Author.Tests.{leb-true, leb-false}
-use borrow.Rule.Slice.PartMut.{put_mid}
 use Rattle.io.specs.Digits.{last_digits, IsDigitCount}
 use Rattle.lists.specs.Bytes.{bytes}
 use Rattle.typed.specs.Printing.{digits_of}
@@ -35,39 +34,21 @@ sets_behind room k [] h = refl
 sets_behind room k (b ∷ bytes) h =
     ap (λ (l : List ℕ). sets l (suc k) bytes) (set_out room k b h) ∙ sets_behind room (suc k) bytes (omega arith)
 
--- ── a copy of those that have place ──
-module _ (bytes room : List ℕ) (at count : ℕ) (told : count ≡ stored (length bytes) at (length room)) where
-  front_alone : sets (sets room at (take count bytes)) (at + length (take count bytes)) (drop count bytes) ≡ sets room at (take count bytes)
-  front_alone = go (drop count bytes) (length-drop count bytes) (length-take count bytes) (length-sets room at (take count bytes))
+-- ── a copy, byte by byte ──
+module _ (bytes before room : List ℕ) (at count : ℕ) (told : count ≡ stored (length bytes) at (length before)) (i : ℕ)
+    (inv : sets room (at + i) (drop i bytes) ≡ sets before at bytes) where
+  pub copy_more : i < count → sets (set room (at + i) (get_or bytes i 0)) (at + (i + 1)) (drop (i + 1) bytes) ≡ sets before at bytes
+  copy_more h =
+      let s : at + (i + 1) ≡ suc (at + i) = omega arith in
+      rw (s, add-one) (sym (ap (sets room (at + i)) (drop-cons bytes i 0 (omega arith))) ∙ inv)
+
+  -- no byte is left, or no place
+  pub copy_end : count ≤ i → length room ≡ length before → room ≡ sets before at bytes
+  copy_end h size = sym (go (drop i bytes) (length-drop i bytes)) ∙ inv
     where
-      go : (rest : List ℕ) → length rest ≡ length bytes - count → length (take count bytes) ≡ min count (length bytes)
-          → length (sets room at (take count bytes)) ≡ length room
-          → sets (sets room at (take count bytes)) (at + length (take count bytes)) rest ≡ sets room at (take count bytes)
-      go [] e f g = refl
-      go (b ∷ rest) e f g = sets_behind _ _ (b ∷ rest) (omega arith)
-
-  all_stores : sets room at (take count bytes) ≡ sets room at bytes
-  all_stores =
-      sym front_alone
-      ∙ sym (sets_append room at (take count bytes) (drop count bytes))
-      ∙ ap (sets room at) (take-append-drop count bytes)
-
-  pub copied : (part after : List ℕ) → 0 < count → part ≡ take count bytes → after ≡ put_mid at (at + count - at) room part → after ≡ sets room at bytes
-  copied part after some is e =
-      let n : at + count - at ≡ count = omega arith in
-      let size : at + length (take count bytes) ≡ at + count = omega (arith, length-take count bytes) in
-      let fits : at + length (take count bytes) ≤ length room = omega (arith, length-take count bytes) in
-      let whole =
-      sets-eq (take count bytes) room at fits
-      ∙ append_assoc (take at room) (take count bytes) (drop (at + length (take count bytes)) room)
-      ∙ ap (λ (k : ℕ). take at room ++ (take count bytes ++ drop k room)) size
-      in
-      e ∙ rw (n, is, drop-drop count at room) (sym whole) ∙ all_stores
-
-  pub no_place : (after : List ℕ) → count ≤ 0 → after ≡ room → after ≡ sets room at bytes
-  no_place after none e =
-      let z : count ≡ 0 = omega arith in
-      e ∙ ap (λ (k : ℕ). sets room at (take k bytes)) (sym z) ∙ all_stores
+      go : (rest : List ℕ) → length rest ≡ length bytes - i → sets room (at + i) rest ≡ room
+      go [] e = refl
+      go (b ∷ rest) e = sets_behind room (at + i) (b ∷ rest) (omega arith)
 
 -- ── one run behind another ──
 module _ (a b : List ℕ) (at : ℕ) (before : List ℕ) (next : ℕ) (out : List ℕ) (p : Stores a at before next out) where

@@ -1,7 +1,7 @@
 -- The contract of `put_answer`, for each case of the answer (`puts_least`, `puts_none`, `puts_spent`), and that of `print_answer`
 -- (`prints_found`, `prints_refused`). Each line of numbers has place, by its contract, and so has the line of the held devices behind it.
 -- Assumes nothing.
-use mathlib.Core.Path.{◌≡◌, refl}
+use mathlib.Core.Path.{◌≡◌, refl, subst}
 use mathlib.Core.List.{List, [], ◌∷◌, ◌++◌}
 use Prim.Native.Nat.{ℕ, ◌-◌, ◌≤◌}
 use native.Mathlib.Omega.{arith}
@@ -47,6 +47,9 @@ module _ (answer : Result Answer (Refused Refusal)) (plan before : List ℕ) (r 
   pub prints_found : (found : Answer) → answer ≡ Ok found → PutsAnswer (Ok found) plan start end → Prints answer plan before r after
   prints_found found e p = rw e (put_in_room 1024 (lines_of (Ok found) plan) before r after start end filled size p.short p.puts)
 
-  pub prints_refused : (e : Refused Refusal) → answer ≡ Err e → PutsLine (bytes "refused") (numbers_at e.kind e.place) start end
-      → length (numbers_at e.kind e.place) ≤ 3 → Prints answer plan before r after
-  prints_refused e same p few = rw same (put_in_room 1024 (lines_of (Err e) plan) before r after start end filled size (omega (arith, p.short)) p.puts)
+  -- `numbers` and `k` are the refusal's numbers and how many they are, as the code has them
+  pub prints_refused : (e : Refused Refusal) (numbers : List ℕ) (k : ℕ) → answer ≡ Err e → PutsLine (bytes "refused") numbers start end → numbers ≡ numbers_at e.kind e.place
+      → k ≡ length (numbers_at e.kind e.place) → k ≤ 3 → Prints answer plan before r after
+  prints_refused e numbers k same p told many few =
+      let q : PutsLine (bytes "refused") (numbers_at e.kind e.place) start end = subst (λ (l : List ℕ). PutsLine (bytes "refused") l start end) told p in
+      rw same (put_in_room 1024 (lines_of (Err e) plan) before r after start end filled size (omega (arith, q.short)) q.puts)

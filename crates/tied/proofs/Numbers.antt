@@ -1,8 +1,8 @@
 -- The numbers of an answer tell it.
 --
 -- In order: a refusal has none of the codes 0, 1 and 2 (`hindrance_large`), and 51 is no code of a sheet's; equal numbers, equal refusals
--- (`hindrance_only`) and equal answers (`numbers_injective`); a list as an answer of the code (`tied_of`). The claim: `tied_is`. Assumes
--- nothing.
+-- (`hindrance_only`) and equal answers (`numbers_injective`); a list as an answer of the program (`tied_of`), whatever code a short room
+-- has there. The claim: `tied_is`. Assumes nothing.
 use mathlib.Core.Path.{◌≡◌, refl, sym, ◌∙◌, ap, subst}
 use mathlib.Core.List.{List, [], ◌∷◌}
 use Prim.Native.Nat.{ℕ, ◌≤◌}
@@ -15,6 +15,7 @@ use Rattle.refusals.specs.declared.Refusal.{Refusal}
 use Rattle.refusals.proofs.Faults.{fault_kind}
 use Rattle.refusals.proofs.Only.{refusal_only}
 use Rattle.refusals.specs.declared.Refused.{Refused}
+use Rattle.refusals.specs.declared.RoomRefusal.{RoomRefusal}
 use Rattle.refusals.specs.declared.RoomRefusal.TheVariants.{BadSheet, ShortRoom}
 use Rattle.std.specs.Prelude.{Result, Ok, Err}
 use Rattle.tied.specs.declared.Tied.{Tied}
@@ -60,14 +61,14 @@ numbers_injective (Err x) (Ok (Spent o)) e = absurd (omega (arith, hindrance_lar
 numbers_injective (Err x) (Err y) e = let z = hindrance_only x.kind y.kind x.place y.place e in ap Err (rw (z.0, z.1))
 
 -- ── a list as an answer ──
-abbrev pub tied_of : Listing → Result Tied (Refused Hindrance)
+abbrev pub tied_of : {code : ℕ} → Listing → Result Tied (Refused (RoomRefusal code))
 tied_of (listed cost held opened ps) = Ok (Plans cost held (length ps) opened)
 tied_of (none opened) = Ok (None opened)
 tied_of (spent opened) = Ok (Spent opened)
 tied_of (refused f place) = Err (record { kind = BadSheet (kind_of f); place = place })
 tied_of (short place) = Err (record { kind = ShortRoom; place = place })
 
-pub tied_numbers : (a : Listing) → numbers_of (tied_of a) ≡ list_numbers a
+pub tied_numbers : (a : Listing) → numbers_of (tied_of {code = 51} a) ≡ list_numbers a
 tied_numbers (listed cost held opened ps) = refl
 tied_numbers (none opened) = refl
 tied_numbers (spent opened) = refl

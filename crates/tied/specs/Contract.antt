@@ -1,7 +1,8 @@
 -- The contract of `least_plans`: this paper's numbers and the room, and what the list promises in its own words. 02, request 5.
 --
 -- In order: the kinds of refusal, and the numbers of a refusal and of an answer; an answer with its plans, as the definitions have it; how
--- many plans stand in the room; the contract. Definitions only.
+-- many plans stand in the room; the contract. All but the first are of any code for a short room, which the type of a refusal has; that it
+-- is 51 is what the contract says of the numbers. Definitions only.
 use Rattle.std.specs.Prelude.{◌≡◌, List, [], ◌∷◌, ℕ, length, ℤ, Result, Ok, Err}
 use Rattle.hall.specs.Hall.{Plan}
 use Rattle.hall.specs.Due.{devices_on}
@@ -20,42 +21,42 @@ use Rattle.tied.specs.declared.Tied.TheVariants.{Plans, None, Spent}
 abbrev pub Hindrance : Type 0
 Hindrance = RoomRefusal 51
 
--- the numbers of a refusal: the sheet's own, or "51 .., its place the room's length"
-abbrev pub hindrance_numbers : Hindrance → (place : ℕ) → List ℕ
+-- the numbers of a refusal: the sheet's own, or the code of its type, "its place the room's length"
+abbrev pub hindrance_numbers : {code : ℕ} → RoomRefusal code → (place : ℕ) → List ℕ
 hindrance_numbers kind place = rooms.numbers_of kind place
 
 -- "the answer gives cost, held number, the number of plans and nodes opened", behind the code; else as 01's table has them
-abbrev pub numbers_of : Result Tied (Refused Hindrance) → List ℕ
+abbrev pub numbers_of : {code : ℕ} → Result Tied (Refused (RoomRefusal code)) → List ℕ
 numbers_of (Ok (Plans cost held number opened)) = 0 ∷ cost ∷ held ∷ number ∷ opened ∷ []
 numbers_of (Ok (None opened)) = 1 ∷ opened ∷ []
 numbers_of (Ok (Spent opened)) = 2 ∷ opened ∷ []
 numbers_of (Err e) = hindrance_numbers e.kind e.place
 
 -- an answer as the definitions have it, with the plans that stand in the room
-abbrev pub refused_by : Hindrance → (place : ℕ) → Listing
+abbrev pub refused_by : {code : ℕ} → RoomRefusal code → (place : ℕ) → Listing
 refused_by (BadSheet kind) place = hall.refused (fault_of kind) place
 refused_by ShortRoom place = hall.short place
 
-abbrev pub listing_of : Result Tied (Refused Hindrance) → List Plan → Listing
+abbrev pub listing_of : {code : ℕ} → Result Tied (Refused (RoomRefusal code)) → List Plan → Listing
 listing_of (Ok (Plans cost held number opened)) ps = hall.listed cost held opened ps
 listing_of (Ok (None opened)) ps = hall.none opened
 listing_of (Ok (Spent opened)) ps = hall.spent opened
 listing_of (Err e) ps = refused_by e.kind e.place
 
 -- how many plans stand in the room
-abbrev pub number_of : Result Tied (Refused Hindrance) → ℕ
+abbrev pub number_of : {code : ℕ} → Result Tied (Refused (RoomRefusal code)) → ℕ
 number_of (Ok (Plans cost held number opened)) = number
 number_of (Ok (None opened)) = 0
 number_of (Ok (Spent opened)) = 0
 number_of (Err e) = 0
 
 -- the plans that stand in the room: so many of n marks each, one behind the other, where n is the sheet's number of devices
-abbrev pub plans_of : List ℤ → Result Tied (Refused Hindrance) → (room : List ℕ) → List Plan
+abbrev pub plans_of : {code : ℕ} → List ℤ → Result Tied (Refused (RoomRefusal code)) → (room : List ℕ) → List Plan
 plans_of ws r room = plans_from (number_of r) (devices_on ws) room
 
 -- the contract: the sheet, the budget, the room before, the answer and the room afterwards
-pub record ListsTies (ws : List ℤ) (budget : ℕ) (before : List ℕ) (r : Result Tied (Refused Hindrance)) (after : List ℕ) : Type 0 where
-  -- the paper's numbers of the answer are the definition's for these words, this budget and this room's length
+pub record ListsTies {code : ℕ} (ws : List ℤ) (budget : ℕ) (before : List ℕ) (r : Result Tied (Refused (RoomRefusal code))) (after : List ℕ) : Type 0 where
+  -- the paper's numbers of the answer are the definition's for these words, this budget and this room's length: of a short room 51
   pub says : numbers_of r ≡ list_numbers (listing ws budget (length before))
   -- the room afterwards, for every case
   pub room : after ≡ list_room_after (listing ws budget (length before)) before

@@ -179,6 +179,7 @@ span_past text from h = ap (λ (l : List ℕ). span_of (tokens_from true from l)
 -- the first of the tokens from a place on is the next token
 pub record FirstToken (text : List ℕ) (from : ℕ) (t : Token) (ts : List Token) : Type 0 where
   pub next : NextToken text from t.place (end_of t)
+  pub bytes : t.bytes ≡ take (end_of t - t.place) (drop t.place text)
   pub others : ts ≡ tokens_at text (end_of t)
 
 pub first_of : (text : List ℕ) (from : ℕ) (t : Token) (ts : List Token) → tokens_at text from ≡ t ∷ ts → FirstToken text from t ts
@@ -198,6 +199,7 @@ first_of text from t ts e = go (tri (start_of text from) (length text))
         subst (λ (t : Token). FirstToken text from t ts) is
         (record {
           next = subst (NextToken text from (start_of text from)) (sym end) next;
+          bytes = ap (λ (k : ℕ). take (k - start_of text from) (drop (start_of text from) text)) (sym end);
           others = sym others ∙ ap (tokens_at text) (sym end);
         })
     go (level h) = none (omega arith)

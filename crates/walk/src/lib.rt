@@ -5,9 +5,12 @@
 // opens a node; walk goes from a node to its children; solve walks from the first node and hands on what was kept.
 #![tactic(auto)]
 
-ghost use Rattle.std.specs.Prelude.{length};
-ghost use Rattle.walk.specs.Contract.{best_found, ties_found, found, Finds};
-ghost use Rattle.walk.specs.Solve.{Spacious};
+ghost use Rattle.std.specs.Prelude.{Ok};
+ghost use Rattle.hall.specs.Walk.{walk_hall};
+ghost use Rattle.hall.specs.Answer.{within};
+ghost use Rattle.needed.specs.Rules.{hall_in};
+ghost use Rattle.walk.specs.Contract.{best_found, ties_found, found, found_of, handed, Finds};
+ghost use Rattle.walk.specs.declared.solve.Asked.TheVariants.{Ties};
 
 mod kept;
 mod meter;
@@ -36,17 +39,24 @@ pub enum Outcome {
     Spent(u32),
 }
 
-// Reads a sheet and walks its hall, in a room for what is kept. The arrays lie here, as in `wcnf`: a function that made them could not lend
-// them on.
+// Walks a hall in a room for its ties. Never a part of `find`: a function fills its rooms when it begins, and this room, the largest, is
+// neither for a sheet that is refused nor for the best plan alone.
+#[inline(never)]
+fn ties_in(hall: &Coded<'_>, budget: u32, ties: &mut [u8]) -> Outcome
+    ensures { Finds (found_of (handed Ties (hall_in hall.now)) (within (hall_in hall.now) budget (walk_hall (hall_in hall.now)))) ties.old (Ok result) ties.new }
+{
+    let mut kept = rooms::kept_room();
+    solve(hall, budget, Asked::Ties, &mut kept, ties)
+}
+
+// Reads a sheet and walks its hall. The arrays lie here, as in `wcnf`: a function that made them could not lend them on.
 fn find(
     words: &[i32],
     room: usize,
     budget: u32,
     asked: Asked,
-    kept: &mut [u8],
     out: &mut [u8],
 ) -> Result<Outcome, Refused<Refusal>>
-    requires { Spacious asked (length kept.old) }
     ensures { Finds (found asked words.now room budget) out.old result out.new }
 {
     let mut costs = rooms::costs_room();
@@ -59,7 +69,13 @@ fn find(
         starts: &starts,
         rules: size.rules,
     };
-    Ok(solve(&hall, budget, asked, kept, out))
+    Ok(match asked {
+        Asked::Best => {
+            let mut kept = rooms::plan_room();
+            solve(&hall, budget, asked, &mut kept, out)
+        }
+        Asked::Ties => ties_in(&hall, budget, out),
+    })
 }
 
 // The best plan of a sheet, whose plans are to fit `room` bytes; its marks go to the front of `best`.
@@ -71,8 +87,7 @@ pub fn best_of(
 ) -> Result<Outcome, Refused<Refusal>>
     ensures { Finds (best_found words.now room budget) best.old result best.new }
 {
-    let mut kept = rooms::plan_room();
-    find(words, room, budget, Asked::Best, &mut kept, best)
+    find(words, room, budget, Asked::Best, best)
 }
 
 // The plans equal to it in cost and held number, each once, in the order in which they are opened: they go to the front of `ties`, up to
@@ -80,6 +95,5 @@ pub fn best_of(
 pub fn ties_of(words: &[i32], budget: u32, ties: &mut [u8]) -> Result<Outcome, Refused<Refusal>>
     ensures { Finds (ties_found words.now budget) ties.old result ties.new }
 {
-    let mut kept = rooms::kept_room();
-    find(words, 200, budget, Asked::Ties, &mut kept, ties)
+    find(words, 200, budget, Asked::Ties, ties)
 }

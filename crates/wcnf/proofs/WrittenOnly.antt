@@ -123,7 +123,7 @@ module _ (ws : List ℤ) (edition : Edition) (before after : List ℕ) where
     pub size : w ≡ length bytes
     pub room : after ≡ in_front bytes before
 
-  pub text_told : (w : ℕ) → Writes ws edition before (Ok w) after → Told w
+  pub text_told : (w : ℕ) → Writes {code = 41} ws edition before (Ok w) after → Told w
   text_told w x = go (writing edition ws (length before)) refl x.says x.room
     where
       go : (y : Writing) → writing edition ws (length before) ≡ y → 0 ∷ w ∷ [] ≡ numbers_written y → after ≡ room_after y before → Told w

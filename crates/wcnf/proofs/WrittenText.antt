@@ -1,8 +1,8 @@
 -- From the lines of clauses to the contract of `write`.
 --
--- In order: the text of a coded hall in either edition (`since_puts`, `before_puts`); a refused sheet (`write_refused`); an accepted
+-- In order: the text of a coded hall in the edition before 2022 (`before_puts`); a refused sheet (`write_refused`); an accepted
 -- sheet: its hall can be written from the arrays (`write_few`, `write_loaded`), and its text is too long for the lent room
--- (`write_short`) or goes there (`write_text`). Assumes nothing.
+-- (`write_short`, where the code of a short room is 41; all else holds of any code) or goes there (`write_text`). Assumes nothing.
 use mathlib.Core.Path.{◌≡◌, refl, sym, ◌∙◌, ap, subst}
 use mathlib.Core.Bool.{Bool}
 use mathlib.Core.List.{List, [], ◌∷◌, ◌++◌}
@@ -23,6 +23,7 @@ use Rattle.hall.specs.Hall.{Hall, leave_out}
 use Rattle.hall.proofs.Reasons.{Verdict, verdict}
 use Rattle.refusals.specs.declared.Refusal.{Refusal}
 use Rattle.refusals.specs.declared.Refused.{Refused}
+use Rattle.refusals.specs.declared.RoomRefusal.{RoomRefusal}
 use Rattle.refusals.specs.declared.RoomRefusal.TheVariants.{BadSheet, ShortRoom}
 use Rattle.sheet.specs.Coded.{rules_of}
 use Rattle.sheet.specs.declared.Size.{Size}
@@ -46,7 +47,7 @@ use Rattle.wcnf.specs.declared.Edition.TheVariants.{Before2022}
 use Rattle.wcnf.specs.Wcnf.{clause_lines, text_of, wcnf, Writing, writing_by, writing_read, writing}
 use Rattle.wcnf.specs.Format.{read_wcnf}
 use Rattle.wcnf.specs.Steps.{Totalled}
-use Rattle.wcnf.specs.Contract.{Obstacle, Written, numbers_written, room_after, Writes}
+use Rattle.wcnf.specs.Contract.{numbers_written, room_after, Writes}
 use Rattle.wcnf.proofs.WrittenBack.{reads_back}
 use Rattle.wcnf.proofs.WrittenSize.{text_fits}
 
@@ -82,8 +83,8 @@ module _ (edition : Edition) (h : Coded) (before after : Page) where
 module _ {ws : List ℤ} (edition : Edition) {costs codes starts costs' codes' starts' : List ℕ} (before : List ℕ) {s : Result Size (Refused Refusal)}
     (d : ReadsNeeded ws 200 costs codes starts s costs' codes' starts') where
   -- ── a refused sheet ──
-  pub write_refused : (e : Refused Refusal) → s ≡ Err e → (o : Refused Obstacle) → o.place ≡ e.place → o.kind ≡ BadSheet e.kind
-      → (r : Written) → IsErrAnd r (λ x. x ≡ o) → Writes ws edition before r before
+  pub write_refused : {code : ℕ} (e : Refused Refusal) → s ≡ Err e → (o : Refused (RoomRefusal code)) → o.place ≡ e.place → o.kind ≡ BadSheet e.kind
+      → (r : Result ℕ (Refused (RoomRefusal code))) → IsErrAnd r (λ x. x ≡ o) → Writes ws edition before r before
   unfolding writing
   write_refused e u o place kind r f =
       let is = ap (writing_read edition (length before)) (read_refused d u) in
@@ -132,13 +133,13 @@ module _ {ws : List ℤ} (edition : Edition) {costs codes starts costs' codes' s
       unfolding writing written
       writing_is = ap (writing_read edition (length before)) lies.is
 
-      pub write_short : length before < end.at → Writes ws edition before (Err (record { kind = ShortRoom; place = end.at })) before
+      pub write_short : {code : ℕ} → code ≡ 41 → length before < end.at → Writes {code = code} ws edition before (Err (record { kind = ShortRoom; place = end.at })) before
       unfolding written
-      write_short h =
+      write_short code_is h =
           let t = lt-ltb (length before) (length written) (omega (arith, size_is)) in
           let is = writing_is ∙ ap (λ (b : Bool). writing_by b written) t in
           record {
-            says = ap (λ (k : ℕ). 41 ∷ k ∷ []) size_is ∙ sym (ap numbers_written is);
+            says = ap (λ (c : ℕ). c ∷ end.at ∷ []) code_is ∙ ap (λ (k : ℕ). 41 ∷ k ∷ []) size_is ∙ sym (ap numbers_written is);
             room = sym (ap (λ (w : Writing). room_after w before) is);
             reason = record { hall = lies.whole; sheet = lies.sheet_of_lem; size = size_is; short = h };
           }
@@ -147,7 +148,7 @@ module _ {ws : List ℤ} (edition : Edition) {costs codes starts costs' codes' s
       unfolding written
       back = reads_back edition lies.whole lies.sheet_of_lem.ranges
 
-      pub write_text : end.at ≤ length before → (part : List ℕ) → part ≡ take end.at end.room.now → Writes ws edition before (Ok end.at) (part ++ drop end.at before)
+      pub write_text : {code : ℕ} → end.at ≤ length before → (part : List ℕ) → part ≡ take end.at end.room.now → Writes {code = code} ws edition before (Ok end.at) (part ++ drop end.at before)
       write_text h part q =
           let t = le-ltb (length before) (length written) (omega (arith, size_is)) in
           let is = writing_is ∙ ap (λ (b : Bool). writing_by b written) t in

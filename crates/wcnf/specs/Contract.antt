@@ -1,7 +1,8 @@
 -- The contract of `write`: this paper's numbers for each case, and the room afterwards. 02, request 4.
 --
 -- In order: the kinds of refusal, and the numbers of an answer and of what is written; the room; what an answer is given for, apart from
--- the writer; the contract of `write`. Definitions only.
+-- the writer; the contract of `write`. An answer has any code for a short room, which the type of its refusal has; that it is 41 is what
+-- the contract says of the numbers. Definitions only.
 use Rattle.std.specs.Prelude.{◌≡◌, List, [], ◌∷◌, ℕ, ◌<◌, length, take, ℤ, Result, Ok, Err}
 use Rattle.std.proofs.Math.Option.{some}
 use Rattle.lists.specs.Lists.{in_front}
@@ -23,8 +24,8 @@ use Rattle.wcnf.specs.Format.{read_wcnf}
 abbrev pub Obstacle : Type 0
 Obstacle = RoomRefusal 41
 
--- the numbers of a refusal: the sheet's own, or "41 .., its place the length needed"
-abbrev pub obstacle_numbers : Obstacle → (place : ℕ) → List ℕ
+-- the numbers of a refusal: the sheet's own, or the code of its type, "its place the length needed"
+abbrev pub obstacle_numbers : {code : ℕ} → RoomRefusal code → (place : ℕ) → List ℕ
 obstacle_numbers o place = rooms.numbers_of o place
 
 -- the length of the text, or what is refused, and where
@@ -32,7 +33,7 @@ abbrev pub Written : Type 0
 Written = Result ℕ (Refused Obstacle)
 
 -- 0 and the length of the text, or the numbers of the refusal
-abbrev pub numbers_of : Written → List ℕ
+abbrev pub numbers_of : {code : ℕ} → Result ℕ (Refused (RoomRefusal code)) → List ℕ
 numbers_of (Ok w) = 0 ∷ w ∷ []
 numbers_of (Err e) = obstacle_numbers e.kind e.place
 
@@ -64,16 +65,17 @@ pub record RoomShort (ws : List ℤ) (edition : Edition) (room place : ℕ) : Ty
   pub short : room < place
 
 -- what an answer is given for
-abbrev pub RefusedFor : List ℤ → Edition → (room : ℕ) → Obstacle → (place : ℕ) → Type 0
+abbrev pub RefusedFor : {code : ℕ} → List ℤ → Edition → (room : ℕ) → RoomRefusal code → (place : ℕ) → Type 0
 RefusedFor ws edition room (BadSheet kind) place = Reason (fault_of kind) place ws 200
 RefusedFor ws edition room ShortRoom place = RoomShort ws edition room place
 
-abbrev pub Justified : List ℤ → Edition → (room : ℕ) → Written → (after : List ℕ) → Type 0
+abbrev pub Justified : {code : ℕ} → List ℤ → Edition → (room : ℕ) → Result ℕ (Refused (RoomRefusal code)) → (after : List ℕ) → Type 0
 Justified ws edition room (Ok w) after = TextWritten ws edition w after
 Justified ws edition room (Err e) after = RefusedFor ws edition room e.kind e.place
 
 -- the contract of `write`: the sheet, the edition, the room before, the answer and the room afterwards
-pub record Writes (ws : List ℤ) (edition : Edition) (before : List ℕ) (r : Written) (after : List ℕ) : Type 0 where
+pub record Writes {code : ℕ} (ws : List ℤ) (edition : Edition) (before : List ℕ) (r : Result ℕ (Refused (RoomRefusal code))) (after : List ℕ) : Type 0 where
+  -- of a short room the numbers are 41 and the length needed
   pub says : numbers_of r ≡ numbers_written (writing edition ws (length before))
   pub room : after ≡ room_after (writing edition ws (length before)) before
   pub reason : Justified ws edition (length before) r after

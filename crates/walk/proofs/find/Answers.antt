@@ -13,5 +13,11 @@ returns-in_err-size c =
 pub invariant_of-hall : goal.invariant_of-hall
 invariant_of-hall c = let d = c.in_ok-size.ensures in search find_loaded
 
-pub returns : goal.returns
-returns c = let d = c.in_ok-size.ensures in search find_found
+pub invariant_of-hall-in-Ties : goal.invariant_of-hall-in-Ties
+invariant_of-hall-in-Ties c = let d = c.in_ok-size.ensures in search find_loaded
+
+pub returns-in-Best : goal.returns-in-Best
+returns-in-Best c = let d = c.in_ok-size.ensures in search find_found
+
+pub returns-in-Ties : goal.returns-in-Ties
+returns-in-Ties c = let d = c.in_ok-size.ensures in rw c.in-Ties.is (search find_found)

@@ -4,8 +4,8 @@ use borrow.Author.Rules.{rules}
 use Rattle.dimacs.proofs.LeadEnds.{lead_over, lead_token, lead_more}
 use Rattle.dimacs.proofs.lead.lead_end.Goals as goal
 
-pub returns-then-eq : goal.returns-then-eq
-returns-then-eq c = search (rules, lead_token)
+pub returns-in-TokenStart : goal.returns-in-TokenStart
+returns-in-TokenStart c = search (rules, lead_token)
 
 pub loop-i-preserved : goal.loop-i-preserved
 loop-i-preserved c = search (rules, lead_more)

@@ -1,0 +1,8 @@
+use mathlib.Core.Path.{◌≡◌}
+use lib.ListN.{take}
+use Rattle.lists.specs.Lists.{in_front}
+use Rattle.plans.proofs.write_plan.Given as goal
+
+-- Invariant: the plan's marks before place i stand in front of the room.
+abbrev pub invariant-loop-i : goal.invariant-loop-i
+invariant-loop-i l = l.room ≡ in_front (take l.i l.plan) l.initial.room
