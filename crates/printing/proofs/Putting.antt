@@ -1,9 +1,9 @@
 -- Bytes put on a page: a copy into its room, one run behind another, a number, and the numbers of a line.
 --
 -- In order: how many bytes of two runs have place (`stored_then`); stores behind a room's end are left out (`sets_behind`); a copy, byte
--- by byte (`copy_more`, `copy_end`); one run of stores behind another (`stores_then`), and so on a
--- page (`puts_then`, `puts_more`); nothing put (`puts_nothing`); a number behind what stands in front of it (`number_puts`); items behind
--- blanks, one list behind another (`spaced_append`), and so no number (`numbers_none`) and one more (`numbers_more`). Assumes nothing.
+-- by byte (`copy_more`, `copy_end`); one run of stores behind another (`stores_then`), and so on a page (`puts_then`, `puts_more`); nothing
+-- put (`puts_nothing`); a number behind what stands in front of it (`number_puts`); items behind blanks, one list behind another
+-- (`spaced_append`), and so no number (`numbers_none`) and one more (`numbers_more`). Assumes nothing.
 use mathlib.Core.Path.{◌≡◌, refl, sym, ◌∙◌, ap}
 use mathlib.Core.Bool.{Bool, true, false}
 use mathlib.Core.List.{List, [], ◌∷◌, ◌++◌, append_assoc, append-nil}

@@ -1,4 +1,5 @@
--- `print_answer` meets its contract: what was found is put, or the line of its refusal (Prints). Assumes nothing.
+-- `print_answer` meets its contract: what was found is put, or the line of its refusal (Prints). `told_front` is for the numbers told where
+-- they are put as a line by themselves: so the wrong program `rule_not_printed` is refused for its numbers. Assumes nothing.
 use Rattle.refusals.proofs.ToldNumbers.{told_front}
 use Rattle.reply.proofs.Prints.{prints_found, prints_refused}
 use Rattle.reply.proofs.print_answer.Goals as goal
