@@ -5,11 +5,10 @@
 -- Assumes nothing.
 use mathlib.Core.Path.{◌≡◌, sym, ◌∙◌, ap, subst}
 use mathlib.Core.List.{List, [], ◌∷◌}
-use Prim.Native.Nat.{ℕ, ◌-◌, ◌≤◌}
+use Prim.Native.Nat.{ℕ, ◌-◌}
 use native.Mathlib.Omega.{arith}
 use lib.ListN.{length, take}
 use lib.IntN.{ℤ}
-use Rattle.lists.specs.Bytes.{bytes}
 use Rattle.lists.proofs.InFront.{front_stands, rest_stays}
 use Rattle.std.specs.Prelude.{Result, Ok, Err}
 use Rattle.refusals.specs.declared.Refused.{Refused}
@@ -74,11 +73,9 @@ module _ (typed : List ℕ) (edition : Edition) (words : List ℤ) (large : leng
   hands x e h =
       in_room_as 100000 (handed_reading edition x) before r after (handed_for edition typed) (ap (handed_reading edition) (sym e) ∙ ap (λ (n : ℕ). handed_reading edition (read_text typed n)) large) h
 
-  pub hands_mistake : (e : Refused Mistake) → PrintsRefused (text.mistake_code e.kind ∷ e.place ∷ []) before r after → reading ≡ Err e → length before ≡ 100000
+  pub hands_mistake : (e : Refused Mistake) → reading ≡ Err e → InRoom 100000 (refused_line (text.mistake_code e.kind ∷ e.place ∷ [])) before r after
       → Hands typed edition before r after
-  hands_mistake e p same size =
-      hands (text.refused e.kind e.place) (read_refused typed words reading words' reads e same)
-      (refused_in_room 100000 (text.mistake_code e.kind ∷ e.place ∷ []) before r after size (omega arith) p)
+  hands_mistake e same h = hands (text.refused e.kind e.place) (read_refused typed words reading words' reads e same) h
 
   pub hands_words : (w : ℕ) → reading ≡ Ok w → HandsSheet (take (w - 0) words') edition before r after → Hands typed edition before r after
   hands_words w e h = hands (text.got (take (w - 0) words')) (read_words typed words reading words' reads w e) h

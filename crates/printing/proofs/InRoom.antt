@@ -1,13 +1,17 @@
 -- Lines in front of a room: where they were put on a page of it from its front on (`Filled`) and have place (`put_in_room`); as other lines that are the same
--- (`in_room_as`); what is to be written lies within the room (`reply_within`); a line of numbers (`line_in_room`); the lines fix
--- the length and the room (`in_room_only`). Assumes nothing.
+-- (`in_room_as`); what is to be written lies within the room (`reply_within`); a line of numbers (`line_in_room`); that of a refusal, as
+-- it is printed alone (`refused_in_room`) or put from the numbers told (`told_in_room`, `two_told_in_room`); the lines fix the length and
+-- the room (`in_room_only`). Assumes nothing.
 use mathlib.Core.Path.{◌≡◌, sym, ◌∙◌, ap, subst}
-use mathlib.Core.List.{List}
-use Prim.Native.Nat.{ℕ, ◌+◌, ◌*◌, ◌≤◌}
+use mathlib.Core.List.{List, [], ◌∷◌}
+use Prim.Native.Nat.{ℕ, ◌+◌, ◌-◌, ◌*◌, ◌≤◌}
 use native.Mathlib.Omega.{arith}
-use lib.ListN.{length, length-take}
+use lib.ListN.{length, get_or, take, length-take}
+use Rattle.lists.specs.Bytes.{bytes}
 use Rattle.lists.specs.Lists.{in_front}
 use Rattle.lists.proofs.InFront.{front_stands, rest_stays, sets_in_front}
+use Rattle.refusals.specs.Contract.{Tells}
+use Rattle.refusals.proofs.ToldNumbers.{told_front}
 use Rattle.typed.specs.Printing.{digits_of}
 use Rattle.printing.specs.Lines.{line, refused_line}
 use Rattle.printing.specs.declared.Page.{Page}
@@ -54,6 +58,23 @@ line_in_room size word numbers before r after start end f size_is fits p =
 pub refused_in_room : (size : ℕ) (numbers before : List ℕ) (r : ℕ) (after : List ℕ) → length before ≡ size → 71 ≤ size → PrintsRefused numbers before r after
     → InRoom size (refused_line numbers) before r after
 refused_in_room size numbers before r after size_is long p = stored_in_room size (refused_line numbers) before r after size_is (let few = p.short in omega arith) p.stores
+
+-- the same, where a refusal's numbers were told into an array (Tells), and put from there on a page as a line: as many as were told, or
+-- the first two of two. The functions leave that to `Page::put_refused`; these laws are there so that a wrong program which does it by
+-- itself is refused for the numbers that it puts
+module _ (size : ℕ) (before : List ℕ) (r : ℕ) (after : List ℕ) (start end : Page) (filled : Filled before start end r after) (size_is : length before ≡ size) (long : 71 ≤ size) where
+  pub told_in_room : (told array : List ℕ) (k : ℕ) (numbers : List ℕ) → Tells told array k numbers → PutsLine (bytes "refused") (take (k - 0) numbers) start end
+      → InRoom size (refused_line told) before r after
+  told_in_room told array k numbers t p =
+      let few = t.few in
+      let is = told_front told array k numbers t in
+      rw (← is) (line_in_room size (bytes "refused") (take (k - 0) numbers) before r after start end filled size_is (omega (arith, ap length is, t.says)) p)
+
+  pub two_told_in_room : (code place : ℕ) (array : List ℕ) (k : ℕ) (numbers : List ℕ) → Tells (code ∷ place ∷ []) array k numbers
+      → PutsLine (bytes "refused") (get_or numbers 0 0 ∷ get_or numbers 1 0 ∷ []) start end → InRoom size (refused_line (code ∷ place ∷ [])) before r after
+  two_told_in_room code place array k numbers t p =
+      let q = subst (λ (l : List ℕ). PutsLine (bytes "refused") (get_or l 0 0 ∷ get_or l 1 0 ∷ []) start end) t.room p in
+      line_in_room size (bytes "refused") (code ∷ place ∷ []) before r after start end filled size_is (omega arith) q
 
 pub in_room_only : (size : ℕ) (lines before : List ℕ) (r r' : ℕ) (after after' : List ℕ) → InRoom size lines before r after
     → InRoom size lines before r' after' → (r ≡ r') × (after ≡ after')

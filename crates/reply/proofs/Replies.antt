@@ -3,19 +3,18 @@
 use mathlib.Core.Path.{◌≡◌, sym, ◌∙◌, ap}
 use mathlib.Core.List.{List, [], ◌∷◌}
 use Prim.Native.Nat.{ℕ, ◌-◌}
-use native.Mathlib.Omega.{arith}
 use lib.ListN.{length, take}
 use lib.IntN.{ℤ}
 use Rattle.std.specs.Prelude.{Result, Ok, Err}
 use Rattle.refusals.specs.declared.Refused.{Refused}
-use Rattle.lists.specs.Bytes.{bytes}
 use Rattle.typed.specs.Text as text
 use Rattle.typed.specs.Text.{read_text}
 use Rattle.typed.specs.Answer.{Reads}
 use Rattle.typed.specs.declared.Mistake.{Mistake}
 use Rattle.typed.proofs.WordsRead.{read_words, read_refused}
-use Rattle.printing.specs.Contract.{PrintsRefused, InRoom}
-use Rattle.printing.proofs.InRoom.{in_room_as, refused_in_room}
+use Rattle.printing.specs.Lines.{refused_line}
+use Rattle.printing.specs.Contract.{InRoom}
+use Rattle.printing.proofs.InRoom.{in_room_as}
 use Rattle.reply.specs.Printed.{printed_reading, printed_for}
 use Rattle.reply.specs.Contract.{Searched, Replies}
 
@@ -30,8 +29,6 @@ module _ (typed : List ℕ) (words : List ℤ) (large : length words ≡ 16384) 
   pub replies_words : (w : ℕ) → reading ≡ Ok w → Searched (take (w - 0) words') before r after → Replies typed before r after
   replies_words w e h = replies (text.got (take (w - 0) words')) (read_words typed words reading words' reads w e) h
 
-  pub replies_refused : (e : Refused Mistake) → PrintsRefused (text.mistake_code e.kind ∷ e.place ∷ []) before r after → reading ≡ Err e → length before ≡ 1024
+  pub replies_refused : (e : Refused Mistake) → reading ≡ Err e → InRoom 1024 (refused_line (text.mistake_code e.kind ∷ e.place ∷ [])) before r after
       → Replies typed before r after
-  replies_refused e p same size =
-      replies (text.refused e.kind e.place) (read_refused typed words reading words' reads e same)
-      (refused_in_room 1024 (text.mistake_code e.kind ∷ e.place ∷ []) before r after size (omega arith) p)
+  replies_refused e same h = replies (text.refused e.kind e.place) (read_refused typed words reading words' reads e same) h

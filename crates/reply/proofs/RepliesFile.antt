@@ -2,15 +2,13 @@
 --
 -- In order: the words that were read lie within their room (`file_within`); a file that was refused, and one whose sheet was searched
 -- (`replies_file_refused`, `replies_file_words`). Assumes nothing.
-use mathlib.Core.Path.{◌≡◌, refl, sym, ◌∙◌, ap}
+use mathlib.Core.Path.{◌≡◌, sym, ◌∙◌, ap}
 use mathlib.Core.List.{List}
 use Prim.Native.Nat.{ℕ, ◌-◌, ◌≤◌}
-use native.Mathlib.Omega.{arith}
 use lib.ListN.{length, take}
 use lib.IntN.{ℤ}
 use Rattle.std.specs.Prelude.{Result, Ok, Err}
 use Rattle.refusals.specs.declared.Refused.{Refused}
-use Rattle.lists.specs.Bytes.{bytes}
 use Rattle.lists.proofs.InFront.{front_within, front_taken}
 use Rattle.hall.specs.Ranges.{words}
 use Rattle.dimacs.specs.File.{flaw_numbers, Parsed, refused, file, read_file}
@@ -18,8 +16,8 @@ use Rattle.dimacs.specs.Contract.{filed_of, room_after, Files}
 use Rattle.dimacs.specs.declared.Flaw.{Flaw}
 use Rattle.dimacs.proofs.Only.{numbers_injective}
 use Rattle.printing.specs.Lines.{refused_line}
-use Rattle.printing.specs.Contract.{PrintsRefused, InRoom}
-use Rattle.printing.proofs.InRoom.{in_room_as, refused_in_room}
+use Rattle.printing.specs.Contract.{InRoom}
+use Rattle.printing.proofs.InRoom.{in_room_as}
 use Rattle.reply.specs.Printed.{printed_search, printed_file, printed_for_file}
 use Rattle.reply.specs.Contract.{Searched, RepliesFile}
 
@@ -60,8 +58,6 @@ module _ (text : List ℕ) (words₀ : List ℤ) (large : length words₀ ≡ 16
   pub replies_file_words : (w : ℕ) → filed ≡ Ok w → Searched (take (w - 0) words') before r after → RepliesFile text before r after
   replies_file_words w e h = replies (printed_search (take (w - 0) words')) (lines_of_words text words₀ filed words' files w e) h
 
-  pub replies_file_refused : (f : Refused Flaw) → filed ≡ Err f → PrintsRefused (flaw_numbers f.kind f.place) before r after → length before ≡ 1024
+  pub replies_file_refused : (f : Refused Flaw) → filed ≡ Err f → InRoom 1024 (refused_line (flaw_numbers f.kind f.place)) before r after
       → RepliesFile text before r after
-  replies_file_refused f e p size =
-      replies (refused_line (flaw_numbers f.kind f.place)) (lines_of_refusal text words₀ filed words' files f e)
-      (refused_in_room 1024 (flaw_numbers f.kind f.place) before r after size (omega arith) p)
+  replies_file_refused f e h = replies (refused_line (flaw_numbers f.kind f.place)) (lines_of_refusal text words₀ filed words' files f e) h

@@ -1,9 +1,6 @@
 -- `hand_sheet` meets its contract: the text as it was written (`hands_text`), or the line of its refusal (`hands_refused`).
 -- Assumes nothing.
-use native.Mathlib.Omega.{arith}
-use Rattle.refusals.proofs.ToldNumbers.{told_long}
 use Rattle.handing.proofs.HandedText.{hands_text, hands_refused}
-use borrow.Author.Rules.{rules}
 use Rattle.handing.proofs.hand_sheet.Goals as goal
 
 pub returns-in-Ok : goal.returns-in-Ok
